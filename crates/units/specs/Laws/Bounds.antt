@@ -1,0 +1,117 @@
+-- Bounds of the payments, each proved once.
+-- Assumes nothing.
+use mathlib.Core.Bool.{Bool, true, false, cond}
+use mathlib.Core.Path.{_≡_, refl, sym, ap, _∙_}
+use Prim.Native.Nat.{ℕ, zero, suc, _+_, _-_, _*_, _/_, _^_, _≤_, _<_, min}
+use native.Mathlib.Nat.{mul-le-mul, mul-le-mul-left, add-mul, mul-add, mul-comm, div-mul-le-self, div-le-of-le-mul, le-div-iff-mul-le}
+use native.Mathlib.Omega.{arith}
+use borrow.Author.Tests.{leb-true, eqb-true, eqb-false, eq-eqb, ne-eqb}
+use mathlib.Core.Logic.{_≢_}
+use lib.Dec.{leb, ltb, eqb}
+use lib.IntN.{ℤ, pos, negsuc, _+ℤ_}
+use lib.Signed.{leZ, mag}
+use Rattle.units.specs.declared.Basis.{Basis}
+use Rattle.units.specs.declared.Fen.{Fen}
+use Rattle.units.specs.declared.Kilograms.{Kilograms}
+use Rattle.units.specs.declared.YuanPerTonne.{YuanPerTonne}
+use Rattle.units.specs.Payments.{fen, unitPrice, payable, atLeast0, fullPayment, firstPayment, restPayment, partPayment, penaltyPassed}
+
+-- ── price + basis ──────────────────────────────────────────────────────────────────────────────
+
+sub-at-most : (p n : ℕ) (b : Bool) → atLeast0 (cond b (negsuc (suc n - suc p)) (pos (p - suc n))) ≤ p
+sub-at-most p n true = omega arith
+sub-at-most p n false = omega arith
+
+-- with a basis of at most m, price + basis is at most price + m
+pub unit-at-most : (price : YuanPerTonne) (basis : Basis) (m : ℕ) → leZ (basis .0) (pos m) ≡ true → atLeast0 (unitPrice price basis) ≤ price .0 + m
+unfolding unitPrice
+unit-at-most price basis m h = go (price .0) (basis .0) h
+  where
+    go : (p : ℕ) (b : ℤ) → leZ b (pos m) ≡ true → atLeast0 (pos p +ℤ b) ≤ p + m
+    go p (pos n) h = omega (arith, leb-true n m h)
+    go p (negsuc n) h = omega (arith, sub-at-most p n (ltb p (suc n)))
+
+-- what can be paid is at least 1 yuan per tonne
+pub unit-at-least : (price : YuanPerTonne) (basis : Basis) → payable price basis ≡ true → 1 ≤ atLeast0 (unitPrice price basis)
+unfolding payable
+unit-at-least price basis h = go (unitPrice price basis) h
+  where
+    go : (z : ℤ) → leZ (pos 1) z ≡ true → 1 ≤ atLeast0 z
+    go (pos n) h = leb-true 1 n h
+    go (negsuc n) h = let k : _≡_ {A = ℕ} 0 1 = cc in absurd (omega arith)
+
+-- ── full, first, rest ──────────────────────────────────────────────────────────────────────────
+
+-- in range, full payment is at most 1,500,000,000 fen (example 6)
+pub full-at-most : (price : YuanPerTonne) (basis : Basis) (weight : Kilograms) →
+    price .0 ≤ 200000 → leZ (basis .0) (pos 50000) ≡ true → weight .0 ≤ 60000 → fullPayment price basis weight .0 ≤ 1500000000
+unfolding fullPayment
+full-at-most price basis weight hp hb hw =
+    let u : atLeast0 (unitPrice price basis) ≤ 250000 = omega (arith, unit-at-most price basis 50000 hb) in
+    omega (arith, mul-le-mul u hw)
+
+-- where price + basis can be paid and the weight is in range, full payment is at least 100 fen (example 3)
+pub full-at-least : (price : YuanPerTonne) (basis : Basis) (weight : Kilograms) →
+    payable price basis ≡ true → 1000 ≤ weight .0 → 100 ≤ fullPayment price basis weight .0
+unfolding fullPayment
+full-at-least price basis weight h hw = omega (arith, mul-le-mul (unit-at-least price basis h) hw)
+
+pub first-le : (full : Fen) → firstPayment full .0 ≤ full .0
+unfolding firstPayment
+first-le full = omega arith
+
+-- first and rest are full
+pub first-rest : (full : Fen) → firstPayment full .0 + restPayment full .0 ≡ full .0
+unfolding restPayment
+first-rest full = omega (arith, first-le full)
+
+-- ── the parts of the rest ──────────────────────────────────────────────────────────────────────
+
+-- what confirmed invoices of c may have been paid at most: rest × c div full
+abbrev pub paidBound : Fen → ℕ → ℕ
+paidBound full c = restPayment full .0 * c / full .0
+
+-- the bound never passes the rest
+pub bound-le-rest : (full : Fen) (c : ℕ) → c ≤ full .0 → paidBound full c ≤ restPayment full .0
+bound-le-rest full c h =
+    div-le-of-le-mul (full .0) (rw (mul-comm (full .0) (restPayment full .0)) (mul-le-mul-left (restPayment full .0) h))
+
+-- two quotients of parts are at most the quotient of the sum
+quotients : (a b k : ℕ) → 0 < k → a / k + b / k ≤ (a + b) / k
+quotients a b k h =
+    le-div-iff-mul-le h .1 (rw (add-mul (a / k) (b / k) k) (omega (arith, div-mul-le-self a k, div-mul-le-self b k)))
+
+-- an invoice that does not reach full keeps paid within the bound
+pub part-keeps-bound : (full confirmed paid invoice : Fen) → 0 < full .0 → confirmed .0 + invoice .0 < full .0 →
+    paid .0 ≤ paidBound full (confirmed .0) →
+    paid .0 + partPayment full confirmed paid invoice .0 ≤ paidBound full (confirmed .0 + invoice .0)
+unfolding partPayment
+part-keeps-bound full confirmed paid invoice some h hp =
+    rw (ne-eqb (confirmed .0 + invoice .0) (full .0) (λ e. omega arith), mul-add (restPayment full .0) (confirmed .0) (invoice .0))
+    (omega (arith, quotients (restPayment full .0 * confirmed .0) (restPayment full .0 * invoice .0) (full .0) some))
+
+-- the last invoice brings paid to the rest
+pub last-part : (full confirmed paid invoice : Fen) → confirmed .0 + invoice .0 ≡ full .0 → paid .0 ≤ restPayment full .0 →
+    paid .0 + partPayment full confirmed paid invoice .0 ≡ restPayment full .0
+unfolding partPayment
+last-part full confirmed paid invoice e hp = rw (eq-eqb (confirmed .0 + invoice .0) (full .0) e) (omega arith)
+
+-- no part passes what is left of the rest
+pub part-le-rest : (full confirmed paid invoice : Fen) → 0 < full .0 → confirmed .0 + invoice .0 ≤ full .0 →
+    paid .0 ≤ paidBound full (confirmed .0) → paid .0 + partPayment full confirmed paid invoice .0 ≤ restPayment full .0
+part-le-rest full confirmed paid invoice some h hp = go (eqb (confirmed .0 + invoice .0) (full .0)) refl
+  where
+    go : (b : Bool) → eqb (confirmed .0 + invoice .0) (full .0) ≡ b →
+        paid .0 + partPayment full confirmed paid invoice .0 ≤ restPayment full .0
+    go true e =
+        let q : confirmed .0 + invoice .0 ≡ full .0 = eqb-true _ _ e in
+        omega (arith, bound-le-rest full (confirmed .0) (omega arith), last-part full confirmed paid invoice q (omega (arith, bound-le-rest full (confirmed .0) (omega arith))))
+    go false e =
+        let q : confirmed .0 + invoice .0 ≢ full .0 = eqb-false _ _ e in
+        omega (arith, part-keeps-bound full confirmed paid invoice some (omega arith) hp, bound-le-rest full (confirmed .0 + invoice .0) h)
+
+-- ── the penalty ────────────────────────────────────────────────────────────────────────────────
+
+pub penalty-at-most : (free : Fen) → (penaltyPassed free .0 ≤ free .0) × (penaltyPassed free .0 ≤ 5000000)
+unfolding penaltyPassed
+penalty-at-most free = (omega arith, omega arith)

@@ -1,0 +1,4 @@
+pub mod Ranges
+pub mod Payments
+pub mod Laws
+pub mod Examples

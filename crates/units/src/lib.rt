@@ -1,0 +1,117 @@
+// The guideline's units, each a number type of its own, and the money of a trade.
+ghost use mathlib.Core.Path.{_≡_};
+ghost use Prim.Native.Nat.{_+_, _-_, _≤_, _<_, _^_};
+ghost use Rattle.units.specs.Ranges.{isPrice, isBasis, isWeight, isAmount};
+ghost use Rattle.units.specs.Payments.{unitPrice, atLeast0, payable, fullPayment, firstPayment, restPayment, partPayment, deposit, penalty, penaltyPassed};
+
+// A price: whole yuan per tonne.
+pub struct YuanPerTonne(pub u32);
+
+// What a listing adds to the price of its reference contract: whole yuan per tonne, of either sign.
+pub struct Basis(pub i32);
+
+// Money: whole fen.
+pub struct Fen(pub u64);
+
+// Weight.
+pub struct Kilograms(pub u32);
+
+// Whether a number as it came is a price, on the whole u64.
+pub fn is_price(x: u64) -> bool
+    ensures { λ r. ⌜ r ≡ isPrice x ⌝ }
+{
+    (5 <= x) & (x <= 200000) & (x % 5 == 0)
+}
+
+pub fn is_basis(x: i32) -> bool
+    ensures { λ r. ⌜ r ≡ isBasis x ⌝ }
+{
+    (-50000 <= x) & (x <= 50000)
+}
+
+pub fn is_weight(x: u32) -> bool
+    ensures { λ r. ⌜ r ≡ isWeight x ⌝ }
+{
+    (1000 <= x) & (x <= 60000)
+}
+
+pub fn is_amount(x: u64) -> bool
+    ensures { λ r. ⌜ r ≡ isAmount x ⌝ }
+{
+    (1 <= x) & (x <= 1000000000000)
+}
+
+// price + basis: at 64 bits the sum never wraps.
+fn unit_price(price: YuanPerTonne, basis: Basis) -> i64
+    ensures { λ r. ⌜ r ≡ unitPrice price basis ⌝ }
+{
+    (price.0 as i64) + (basis.0 as i64)
+}
+
+// price + basis as an unsigned number; below 0 there is nothing to pay.
+fn price_to_pay(price: YuanPerTonne, basis: Basis) -> u64
+    ensures { λ r. ⌜ (r ≡ atLeast0 (unitPrice price basis)) × (r < 2 ^ 33) ⌝ }
+{
+    let unit = unit_price(price, basis);
+    if unit < 0 {
+        return 0;
+    }
+    unit as u64
+}
+
+// Whether a trade at this price has anything to pay: price + basis is at least 1.
+pub fn is_payable(price: YuanPerTonne, basis: Basis) -> bool
+    ensures { λ r. ⌜ r ≡ payable price basis ⌝ }
+{
+    1 <= unit_price(price, basis)
+}
+
+pub fn full_payment(price: YuanPerTonne, basis: Basis, weight: Kilograms) -> Fen
+    requires { ⌜ weight .0 ≤ 60000 ⌝ }
+    ensures { λ r. ⌜ r ≡ fullPayment price basis weight ⌝ }
+{
+    Fen((price_to_pay(price, basis) * (weight.0 as u64) + 5) / 10)
+}
+
+pub fn first_payment(full: Fen) -> Fen
+    requires { ⌜ full .0 < 2 ^ 32 ⌝ }
+    ensures { λ r. ⌜ r ≡ firstPayment full ⌝ }
+{
+    Fen(full.0 * 80 / 100)
+}
+
+pub fn rest_payment(full: Fen) -> Fen
+    requires { ⌜ full .0 < 2 ^ 32 ⌝ }
+    ensures { λ r. ⌜ r ≡ restPayment full ⌝ }
+{
+    Fen(full.0 - first_payment(full).0)
+}
+
+// What the confirmation of an invoice pays, where `confirmed` and `paid` stand before it.
+pub fn part_payment(full: Fen, confirmed: Fen, paid: Fen, invoice: Fen) -> Fen
+    requires { ⌜ (full .0 < 2 ^ 32) × (0 < invoice .0) × (confirmed .0 + invoice .0 ≤ full .0) × (paid .0 ≤ restPayment full .0) ⌝ }
+    ensures { λ r. ⌜ r ≡ partPayment full confirmed paid invoice ⌝ }
+{
+    let rest = rest_payment(full).0;
+    let all = full.0;
+    let new = invoice.0;
+    let unpaid = rest - paid.0;
+    if confirmed.0 + new == all {
+        return Fen(unpaid);
+    }
+    Fen(rest * new / all)
+}
+
+// Frozen from the buyer for each receipt bid on.
+pub fn deposit_per_receipt() -> Fen
+    ensures { λ r. ⌜ r ≡ deposit ⌝ }
+{
+    Fen(5000000)
+}
+
+// Of the penalty a seller owes, what its free money can pay.
+pub fn penalty_passed(free: Fen) -> Fen
+    ensures { λ r. ⌜ r ≡ penaltyPassed free ⌝ }
+{
+    if free.0 < 5000000 { free } else { Fen(5000000) }
+}

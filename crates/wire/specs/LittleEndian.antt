@@ -1,0 +1,28 @@
+-- How a number stands in bytes: "Numbers in records are little-endian; i32 is two's complement" (document 01).
+-- A byte is a number below 256, a run of bytes a list; what is put from an offset on is `sets` of `lib.Seq`.
+-- Assumes nothing.
+use mathlib.Core.Bool.{cond}
+use mathlib.Core.List.{List, [], _∷_}
+use Prim.Native.Nat.{ℕ, zero, suc, _+_, _*_, _/_, _%_, _-_, _^_}
+use lib.Dec.{ltb}
+use lib.IntN.{ℤ, pos, negsuc}
+use lib.ListN.{getD}
+
+-- the number of the w bytes of s from at on, lowest byte first
+unfoldable pub leAt : ℕ → List ℕ → ℕ → ℕ
+leAt zero s at = 0
+leAt (suc w) s at = getD s at 0 + 256 * leAt w s (at + 1)
+
+-- the w lowest bytes of v, lowest first
+unfoldable pub leBytes : ℕ → ℕ → List ℕ
+leBytes zero v = []
+leBytes (suc w) v = v % 256 ∷ leBytes w (v / 256)
+
+-- the signed number of 32 bits: from 2 ^ 31 on, v - 2 ^ 32 (`negsuc n` is -(n + 1))
+unfoldable pub signed32 : ℕ → ℤ
+signed32 v = cond (ltb v (2 ^ 31)) (pos v) (negsuc (2 ^ 32 - suc v))
+
+-- the 32 bits of a signed number: below 0, x + 2 ^ 32
+unfoldable pub bits32 : ℤ → ℕ
+bits32 (pos n) = n
+bits32 (negsuc n) = 2 ^ 32 - suc n
