@@ -1,0 +1,25 @@
+use Rattle.zone.specs.Valid.{bidOk}
+use borrow.Author.Needs.{needs}
+use Rattle.zone.proofs.bid_ok.Statement.{statement}
+use Rattle.zone.proofs.bid_ok.Tie as tie
+
+is-account-requires : tie.Need-is-account-requires
+is-account-requires c κs = search needs
+
+cast-is-price : tie.Need-cast-is-price
+cast-is-price c = search needs
+
+is-price-requires : tie.Need-is-price-requires
+is-price-requires c κs = search needs
+
+is-payable-requires : tie.Need-is-payable-requires
+is-payable-requires c κs = search needs
+
+returns : tie.Need-returns
+unfolding bidOk
+returns c = rw (c .before .before .before .before .before .before .is-account .ensures, c .before .before .before .is-price .ensures, c .is-payable .ensures)
+
+pub bid-ok-spec : {M : Type 1} → statement M
+bid-ok-spec =
+    tie.close
+    (tie.spec is-account-requires cast-is-price is-price-requires is-payable-requires returns)

@@ -1,0 +1,82 @@
+-- A receipt and its record hold the same: each is had back from the other.
+-- Assumes nothing.
+use mathlib.Core.Bool.{true, false}
+use mathlib.Core.Path.{_≡_, refl, sym, ap, _∙_, subst}
+use Prim.Native.Nat.{ℕ, zero, suc}
+use native.Mathlib.Decide.{ℕ-discrete}
+use native.Mathlib.Omega.{arith}
+use Rattle.units.specs.declared.Kilograms.{Kilograms}
+use Rattle.units.specs.Ranges.{within}
+use Rattle.zone.specs.declared.Bid.{Bid}
+use Rattle.zone.specs.declared.Invoices.{Invoices}
+use Rattle.zone.specs.declared.Listing.{Listing}
+use Rattle.zone.specs.declared.Lot.{Lot}
+use Rattle.zone.specs.declared.Lot.the-variants.{Idle, Listed, BidStands, Struck, Lodged, Settled, FirstPaid, PenaltyDue}
+use Rattle.zone.specs.declared.Receipt.{Receipt}
+use Rattle.zone.specs.declared.Record.{Record}
+use Rattle.zone.specs.Record.{noListing, noBid, flatRecord, recordAs, recordOf, lotAt, receiptOf}
+use Rattle.zone.specs.Valid.{recordValid, noReceipt}
+use Rattle.zone.specs.Laws.Facts.{ListingAt, BidAt, Known, known, unregistered}
+
+-- a receipt is had back from its record
+pub receipt-back : (r : Receipt) → receiptOf (recordOf r) ≡ r
+unfolding receiptOf recordOf
+receipt-back r = go (r .owner) (r .weight) (r .lot)
+  where
+    go : (o : ℕ) (w : Kilograms) (lot : Lot) → receiptOf (recordAs o w lot) ≡ record { owner = o; weight = w; lot = lot }
+    go o w Idle = refl
+    go o w (Listed l) = refl
+    go o w (BidStands l b) = refl
+    go o w (Struck t) = refl
+    go o w (Lodged t) = refl
+    go o w (Settled t) = refl
+    go o w (FirstPaid t i) = refl
+    go o w (PenaltyDue s b d) = refl
+
+-- the fields of a listing and of a bid that a state does not fill
+unlisted : (n : ℕ) (l : Listing) (s : ℕ) → within 1 6 n ≡ false → l .seller ≡ s → ListingAt n l → noListing s ≡ l
+unlisted n l s f e L =
+    λ j. record { seller = sym e j; contract = sym (L .contract .no f) j; days = sym (L .days .no f) j; basis = record { 0 = sym (L .basis .no f) j } }
+
+unbid : (n : ℕ) (l : Listing) (b : Bid) (s : ℕ) → within 2 6 n ≡ false → b .buyer ≡ s → BidAt n l b → noBid s ≡ b
+unbid n l b s f e B = λ j. record { buyer = sym e j; price = record { 0 = sym (B .price .no f) j } }
+
+-- a valid record is the record of its lot, by the number of its state
+module _ (o : ℕ) (w : Kilograms) (l : Listing) (b : Bid) (d : ℕ) (i : Invoices) where
+  abbrev at : ℕ → Record
+  at n = flatRecord o w n l b d i
+
+  back : (n : ℕ) → Known (at n) → recordAs o w (lotAt n (at n)) ≡ at n
+  back zero K =
+      let F = K .fields in
+      λ j.
+      flatRecord o w 0 (unlisted 0 l 0 refl (F .listing .seller .no refl) (F .listing) j) (unbid 0 l b 0 refl (F .bid .buyer .no refl) (F .bid) j)
+      (sym (F .due .no refl) j) (K .invoices .no refl j)
+  back (suc zero) K =
+      let F = K .fields in
+      λ j. flatRecord o w 1 l (unbid 1 l b 0 refl (F .bid .buyer .no refl) (F .bid) j) (sym (F .due .no refl) j) (K .invoices .no refl j)
+  back (suc (suc zero)) K = λ j. flatRecord o w 2 l b (sym (K .fields .due .no refl) j) (K .invoices .no refl j)
+  back (suc (suc (suc zero))) K = λ j. flatRecord o w 3 l b d (K .invoices .no refl j)
+  back (suc (suc (suc (suc zero)))) K = λ j. flatRecord o w 4 l b d (K .invoices .no refl j)
+  back (suc (suc (suc (suc (suc zero))))) K = λ j. flatRecord o w 5 l b d (K .invoices .no refl j)
+  back (suc (suc (suc (suc (suc (suc zero)))))) K = refl
+  back (suc (suc (suc (suc (suc (suc (suc zero))))))) K =
+      let F = K .fields in
+      λ j. flatRecord o w 7 (unlisted 7 l (l .seller) refl refl (F .listing) j) (unbid 7 l b (b .buyer) refl refl (F .bid) j) d (K .invoices .no refl j)
+  back (suc (suc (suc (suc (suc (suc (suc (suc n)))))))) K = absurd (omega (arith, K .fields .state))
+
+-- a valid record is had back from its receipt
+pub record-back : (r : Record) → recordValid r ≡ true → recordOf (receiptOf r) ≡ r
+unfolding receiptOf recordOf
+record-back r h = go (ℕ-discrete (r .owner) 0)
+  where
+    go : Dec (r .owner ≡ 0) → recordOf (receiptOf r) ≡ r
+    go (yes e) = subst (λ (x : Record). recordOf (receiptOf x) ≡ x) (sym (unregistered r h e)) refl
+    go (no n) = back (r .owner) (r .weight) _ _ (r .due) _ (r .state) (known r h n)
+
+-- a valid receipt with no owner is no receipt
+pub receipt-none : (r : Receipt) → recordValid (recordOf r) ≡ true → r .owner ≡ 0 → r ≡ noReceipt
+unfolding receiptOf
+receipt-none r h e =
+    let o : recordOf r .owner ≡ 0 = ap (λ (x : Receipt). x .owner) (receipt-back r) ∙ e in
+    sym (receipt-back r) ∙ ap receiptOf (unregistered (recordOf r) h o) ∙ receipt-back noReceipt

@@ -1,0 +1,286 @@
+-- What a valid lot knows in each of its states, as named facts, and that these facts make it valid.
+-- Assumes nothing.
+use mathlib.Core.Bool.{true, false, _||_, true≢false, false≢true}
+use mathlib.Core.Logic.{_≢_}
+use mathlib.Core.Path.{_≡_, refl, sym, ap, ap₂, _∙_}
+use Prim.Native.Nat.{ℕ, _≤_}
+use native.Mathlib.Decide.{ℕ-discrete}
+use native.Mathlib.Omega.{arith}
+use lib.Dec.{eqb}
+use Rattle.units.specs.declared.Kilograms.{Kilograms}
+use Rattle.units.specs.Payments.{fullPayment, payable}
+use Rattle.units.specs.Ranges.{within, isPrice, isBasis}
+use Rattle.zone.specs.declared.Bid.{Bid}
+use Rattle.zone.specs.declared.Invoices.{Invoices}
+use Rattle.zone.specs.declared.Listing.{Listing}
+use Rattle.zone.specs.declared.Lot.{Lot}
+use Rattle.zone.specs.declared.Lot.the-variants.{Idle, Listed, BidStands, Struck, Lodged, Settled, FirstPaid, PenaltyDue}
+use Rattle.zone.specs.declared.Receipt.{Receipt}
+use Rattle.zone.specs.declared.Record.{Record}
+use Rattle.zone.specs.declared.Trade.{Trade}
+use Rattle.zone.specs.Held.{full}
+use Rattle.zone.specs.Record.{noListing, noBid, noInvoices, flatRecord, recordAs, recordOf, invoicesOf}
+use Rattle.zone.specs.Valid.{recordValid}
+use Rattle.zone.specs.Laws.Tests.{InRange, inside, in-range, fills, leaves}
+use Rattle.zone.specs.Laws.Facts.{ListingAt, BidAt, OwnerAt, InvoicesIn, Owned, FieldsIn, Known, known, known-valid, owner-some, unregistered, none-valid}
+
+-- ── The groups of fields, each in its range ────────────────────────────────────────────────────
+
+-- what a seller lists
+pub record ListingIn (l : Listing) : Type 0 where
+  pub seller : InRange 1 96 (l .seller)
+  pub contract : InRange 1 8 (l .contract)
+  pub days : l .days ≤ 3
+  pub basis : isBasis (l .basis .0) ≡ true
+
+-- a bid on a listing
+pub record BidIn (l : Listing) (b : Bid) : Type 0 where
+  pub buyer : InRange 1 96 (b .buyer)
+  pub price : isPrice (b .price .0) ≡ true
+  pub differ : b .buyer ≢ l .seller
+  pub pays : payable (b .price) (l .basis) ≡ true
+
+-- a trade that was struck
+pub record TradeIn (t : Trade) : Type 0 where
+  pub listing : ListingIn (t .listing)
+  pub bid : BidIn (t .listing) (t .bid)
+  pub due : InRange 1 30003 (t .due)
+
+-- ── The eight states, of a receipt with owner o and weight w ───────────────────────────────────
+
+-- state 0: a registered receipt with no sale, or no receipt at all
+pub record IdleIn (o : ℕ) (w : Kilograms) : Type 0 where
+  pub unregistered : o ≡ 0 → w .0 ≡ 0
+  pub registered : o ≢ 0 → Owned o w
+
+-- state 1
+pub record ListedIn (o : ℕ) (w : Kilograms) (l : Listing) : Type 0 where
+  pub owned : Owned o w
+  pub owner : o ≡ l .seller
+  pub listing : ListingIn l
+
+-- state 2
+pub record BidStandsIn (o : ℕ) (w : Kilograms) (l : Listing) (b : Bid) : Type 0 where
+  pub owned : Owned o w
+  pub owner : o ≡ l .seller
+  pub listing : ListingIn l
+  pub bid : BidIn l b
+
+-- states 3 and 4: the receipt is still the seller's
+pub record SellersIn (o : ℕ) (w : Kilograms) (t : Trade) : Type 0 where
+  pub owned : Owned o w
+  pub owner : o ≡ t .listing .seller
+  pub trade : TradeIn t
+
+-- states 5 and 6: the receipt is the buyer's
+pub record BuyersIn (o : ℕ) (w : Kilograms) (t : Trade) : Type 0 where
+  pub owned : Owned o w
+  pub owner : o ≡ t .bid .buyer
+  pub trade : TradeIn t
+
+-- state 6
+pub record FirstPaidIn (o : ℕ) (w : Kilograms) (t : Trade) (i : Invoices) : Type 0 where
+  pub bought : BuyersIn o w t
+  pub invoices : InvoicesIn (fullPayment (t .bid .price) (t .listing .basis) w) i
+
+-- state 7
+pub record PenaltyDueIn (o : ℕ) (w : Kilograms) (seller buyer due : ℕ) : Type 0 where
+  pub owned : Owned o w
+  pub owner : o ≡ seller
+  pub seller-in : InRange 1 96 seller
+  pub buyer-in : InRange 1 96 buyer
+  pub differ : buyer ≢ seller
+  pub due-in : InRange 1 30003 due
+
+-- what a valid receipt knows of its lot
+abbrev pub LotIn : ℕ → Kilograms → Lot → Type 0
+LotIn o w Idle = IdleIn o w
+LotIn o w (Listed l) = ListedIn o w l
+LotIn o w (BidStands l b) = BidStandsIn o w l b
+LotIn o w (Struck t) = SellersIn o w t
+LotIn o w (Lodged t) = SellersIn o w t
+LotIn o w (Settled t) = BuyersIn o w t
+LotIn o w (FirstPaid t i) = FirstPaidIn o w t i
+LotIn o w (PenaltyDue s b d) = PenaltyDueIn o w s b d
+
+-- ── From a valid record, and back ──────────────────────────────────────────────────────────────
+
+-- a listing in the states 1 to 6
+module _ (n : ℕ) (l : Listing) (s : InRange 1 6 n) where
+  listing-here : ListingAt n l → ListingIn l
+  listing-here L =
+      let e : within 1 6 n ≡ true = in-range s in
+      record { seller = L .seller .yes (inside 1 7 n (omega arith) (omega arith)); contract = L .contract .yes e; days = L .days .yes e; basis = L .basis .yes e }
+
+  listing-there : ListingIn l → ListingAt n l
+  listing-there L =
+      let e : within 1 6 n ≡ true = in-range s in
+      record { seller = fills (inside 1 7 n (omega arith) (omega arith)) (L .seller); contract = fills e (L .contract); days = fills e (L .days); basis = fills e (L .basis) }
+
+-- a bid in the states 2 to 6
+module _ (n : ℕ) (l : Listing) (b : Bid) (s : InRange 2 6 n) where
+  bid-here : BidAt n l b → BidIn l b
+  bid-here B =
+      let e : within 2 6 n ≡ true = in-range s in
+      let f : within 2 7 n ≡ true = inside 2 7 n (omega arith) (omega arith) in
+      record { buyer = B .buyer .yes f; price = B .price .yes e; differ = B .differ f; pays = B .pays e }
+
+  bid-there : BidIn l b → BidAt n l b
+  bid-there B =
+      record { buyer = fills (inside 2 7 n (omega arith) (omega arith)) (B .buyer); price = fills (in-range s) (B .price); differ = λ _. B .differ; pays = λ _. B .pays }
+
+-- a lot without a bid
+no-bid : (n : ℕ) (l : Listing) → within 2 7 n ≡ false → within 2 6 n ≡ false → BidAt n l (noBid 0)
+no-bid n l s e =
+    record { buyer = leaves s refl; price = leaves e refl; differ = λ t. absurd (true≢false (sym t ∙ s)); pays = λ t. absurd (true≢false (sym t ∙ e)) }
+
+-- a receipt of the seller, and one of the buyer
+by-seller : (n o s b : ℕ) → within 5 6 n ≡ false → o ≡ s → OwnerAt n o s b
+by-seller n o s b f e = record { is-seller = λ _. e; is-buyer = λ t. absurd (true≢false (sym t ∙ f)) }
+
+by-buyer : (n o s b : ℕ) → within 1 4 n || eqb n 7 ≡ false → o ≡ b → OwnerAt n o s b
+by-buyer n o s b f e = record { is-seller = λ t. absurd (true≢false (sym t ∙ f)); is-buyer = λ _. e }
+
+-- a trade in the states 3 to 6
+module _ (n o : ℕ) (w : Kilograms) (t : Trade) (i : Invoices) (s : InRange 3 6 n) where
+  abbrev traded : Record
+  traded = flatRecord o w n (t .listing) (t .bid) (t .due) i
+
+  trade-here : FieldsIn traded → TradeIn t
+  trade-here F =
+      record {
+        listing = listing-here n (t .listing) (omega arith) (F .listing);
+        bid = bid-here n (t .listing) (t .bid) (omega arith) (F .bid);
+        due = F .due .yes (inside 3 7 n (omega arith) (omega arith));
+      }
+
+  trade-there : Owned o w → TradeIn t → OwnerAt n o (t .listing .seller) (t .bid .buyer) → FieldsIn traded
+  trade-there O T W =
+      record {
+        state = omega arith;
+        owned = O;
+        listing = listing-there n (t .listing) (omega arith) (T .listing);
+        bid = bid-there n (t .listing) (t .bid) (omega arith) (T .bid);
+        due = fills (inside 3 7 n (omega arith) (omega arith)) (T .due);
+        owner = W;
+      }
+
+  sellers-here : within 1 4 n || eqb n 7 ≡ true → FieldsIn traded → SellersIn o w t
+  sellers-here e F = record { owned = F .owned; owner = F .owner .is-seller e; trade = trade-here F }
+
+  sellers-there : within 5 6 n ≡ false → SellersIn o w t → FieldsIn traded
+  sellers-there e I = trade-there (I .owned) (I .trade) (by-seller n o (t .listing .seller) (t .bid .buyer) e (I .owner))
+
+  buyers-here : within 5 6 n ≡ true → FieldsIn traded → BuyersIn o w t
+  buyers-here e F = record { owned = F .owned; owner = F .owner .is-buyer e; trade = trade-here F }
+
+  buyers-there : within 1 4 n || eqb n 7 ≡ false → BuyersIn o w t → FieldsIn traded
+  buyers-there e I = trade-there (I .owned) (I .trade) (by-buyer n o (t .listing .seller) (t .bid .buyer) e (I .owner))
+
+-- a valid record of a state from 1 on
+used : (r : Record) → 1 ≤ r .state → recordValid r ≡ true → Known r
+used r s h = known r h (owner-some r h s)
+
+-- what a valid lot knows
+pub lot-in : (o : ℕ) (w : Kilograms) (lot : Lot) → recordValid (recordAs o w lot) ≡ true → LotIn o w lot
+unfolding recordOf full
+lot-in o w Idle h =
+    record {
+      unregistered = λ e. ap (λ (r : Record). r .weight .0) (unregistered (recordAs o w Idle) h e);
+      registered = λ n. known (recordAs o w Idle) h n .fields .owned;
+    }
+lot-in o w (Listed l) h =
+    let F = used (recordAs o w (Listed l)) (omega arith) h .fields in
+    record { owned = F .owned; owner = F .owner .is-seller refl; listing = listing-here 1 l (omega arith) (F .listing) }
+lot-in o w (BidStands l b) h =
+    let F = used (recordAs o w (BidStands l b)) (omega arith) h .fields in
+    record {
+      owned = F .owned;
+      owner = F .owner .is-seller refl;
+      listing = listing-here 2 l (omega arith) (F .listing);
+      bid = bid-here 2 l b (omega arith) (F .bid);
+    }
+lot-in o w (Struck t) h = sellers-here 3 o w t noInvoices (omega arith) refl (used (recordAs o w (Struck t)) (omega arith) h .fields)
+lot-in o w (Lodged t) h = sellers-here 4 o w t noInvoices (omega arith) refl (used (recordAs o w (Lodged t)) (omega arith) h .fields)
+lot-in o w (Settled t) h = buyers-here 5 o w t noInvoices (omega arith) refl (used (recordAs o w (Settled t)) (omega arith) h .fields)
+lot-in o w (FirstPaid t i) h =
+    let K = used (recordAs o w (FirstPaid t i)) (omega arith) h in
+    record { bought = buyers-here 6 o w t i (omega arith) refl (K .fields); invoices = K .invoices .yes refl }
+lot-in o w (PenaltyDue s b d) h =
+    let F = used (recordAs o w (PenaltyDue s b d)) (omega arith) h .fields in
+    record {
+      owned = F .owned;
+      owner = F .owner .is-seller refl;
+      seller-in = F .listing .seller .yes refl;
+      buyer-in = F .bid .buyer .yes refl;
+      differ = F .bid .differ refl;
+      due-in = F .due .yes refl;
+    }
+
+-- a record without invoices is valid by its fields
+plain : (r : Record) → eqb (r .state) 6 ≡ false → noInvoices ≡ invoicesOf r → FieldsIn r → recordValid r ≡ true
+plain r s e F = known-valid r (record { fields = F; invoices = leaves s e })
+
+idle-valid : (o : ℕ) (w : Kilograms) → IdleIn o w → Dec (o ≡ 0) → recordValid (recordAs o w Idle) ≡ true
+unfolding recordOf
+idle-valid o w I (yes e) = ap₂ (λ (x : ℕ) (y : ℕ). recordValid (recordAs x (record { 0 = y }) Idle)) e (I .unregistered e) ∙ none-valid
+idle-valid o w I (no n) =
+    plain (recordAs o w Idle) refl refl
+    (record {
+      state = omega arith;
+      owned = I .registered n;
+      listing = record { seller = leaves refl refl; contract = leaves refl refl; days = leaves refl refl; basis = leaves refl refl };
+      bid = no-bid 0 (noListing 0) refl refl;
+      due = leaves refl refl;
+      owner = record { is-seller = λ t. absurd (false≢true t); is-buyer = λ t. absurd (false≢true t) };
+    })
+
+-- the other way: what a lot knows makes it valid
+pub lot-valid : (o : ℕ) (w : Kilograms) (lot : Lot) → LotIn o w lot → recordValid (recordAs o w lot) ≡ true
+unfolding full
+lot-valid o w Idle I = idle-valid o w I (ℕ-discrete o 0)
+lot-valid o w (Listed l) I =
+    plain (recordAs o w (Listed l)) refl refl
+    (record {
+      state = omega arith;
+      owned = I .owned;
+      listing = listing-there 1 l (omega arith) (I .listing);
+      bid = no-bid 1 l refl refl;
+      due = leaves refl refl;
+      owner = by-seller 1 o (l .seller) 0 refl (I .owner);
+    })
+lot-valid o w (BidStands l b) I =
+    plain (recordAs o w (BidStands l b)) refl refl
+    (record {
+      state = omega arith;
+      owned = I .owned;
+      listing = listing-there 2 l (omega arith) (I .listing);
+      bid = bid-there 2 l b (omega arith) (I .bid);
+      due = leaves refl refl;
+      owner = by-seller 2 o (l .seller) (b .buyer) refl (I .owner);
+    })
+lot-valid o w (Struck t) I = plain (recordAs o w (Struck t)) refl refl (sellers-there 3 o w t noInvoices (omega arith) refl I)
+lot-valid o w (Lodged t) I = plain (recordAs o w (Lodged t)) refl refl (sellers-there 4 o w t noInvoices (omega arith) refl I)
+lot-valid o w (Settled t) I = plain (recordAs o w (Settled t)) refl refl (buyers-there 5 o w t noInvoices (omega arith) refl I)
+lot-valid o w (FirstPaid t i) I =
+    known-valid (recordAs o w (FirstPaid t i))
+    (record { fields = buyers-there 6 o w t i (omega arith) refl (I .bought); invoices = fills refl (I .invoices) })
+lot-valid o w (PenaltyDue s b d) I =
+    plain (recordAs o w (PenaltyDue s b d)) refl refl
+    (record {
+      state = omega arith;
+      owned = I .owned;
+      listing = record { seller = fills refl (I .seller-in); contract = leaves refl refl; days = leaves refl refl; basis = leaves refl refl };
+      bid = record { buyer = fills refl (I .buyer-in); price = leaves refl refl; differ = λ _. I .differ; pays = λ t. absurd (false≢true t) };
+      due = fills refl (I .due-in);
+      owner = by-seller 7 o s b refl (I .owner);
+    })
+
+-- what a valid receipt knows of its lot, and the other way
+pub receipt-in : (r : Receipt) → recordValid (recordOf r) ≡ true → LotIn (r .owner) (r .weight) (r .lot)
+unfolding recordOf
+receipt-in r h = lot-in (r .owner) (r .weight) (r .lot) h
+
+pub receipt-valid : (r : Receipt) → LotIn (r .owner) (r .weight) (r .lot) → recordValid (recordOf r) ≡ true
+unfolding recordOf
+receipt-valid r I = lot-valid (r .owner) (r .weight) (r .lot) I

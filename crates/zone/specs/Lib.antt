@@ -1,0 +1,4 @@
+pub mod Record
+pub mod Held
+pub mod Valid
+pub mod Laws
