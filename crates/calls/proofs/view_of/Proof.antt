@@ -1,0 +1,42 @@
+-- What the rules read, field by field.
+use Rattle.rules.specs.View.{viewOf}
+use borrow.Author.Needs.{needs}
+use Rattle.calls.proofs.view_of.Statement.{statement}
+use Rattle.calls.proofs.view_of.Tie as tie
+
+record-of-requires : tie.Need-record-of-requires
+record-of-requires c κs = search needs
+
+ask-of-requires : tie.Need-ask-of-requires
+ask-of-requires c κs = search needs
+
+free-of-requires : tie.Need-free-of-requires
+free-of-requires c κs = search needs
+
+free-of-requires-2 : tie.Need-free-of-requires-2
+free-of-requires-2 c κs = search needs
+
+free-of-requires-3 : tie.Need-free-of-requires-3
+free-of-requires-3 c κs = search needs
+
+returns : tie.Need-returns
+unfolding viewOf
+returns c =
+    rw (
+      c .free-of3 .ensures,
+      c .before .free-of2 .ensures,
+      c .before .before .free-of .ensures,
+      c .before .before .before .ask-of .ensures,
+      c .before .before .before .before .before .before .before .record-of .ensures,
+    )
+
+pub view-of-spec : {M : Type 1} → statement M
+view-of-spec =
+    tie.close
+    (tie.spec
+    record-of-requires
+    ask-of-requires
+    free-of-requires
+    free-of-requires-2
+    free-of-requires-3
+    returns)

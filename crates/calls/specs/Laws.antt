@@ -1,0 +1,5 @@
+-- Laws of the definitions of this crate.
+-- Assumes nothing.
+pub mod Past
+pub mod Visits
+pub mod Swept

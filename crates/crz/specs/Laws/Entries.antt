@@ -1,0 +1,34 @@
+-- A call lists at most 128 entries, and the code's array gives them back.
+-- Assumes nothing.
+use mathlib.Core.Bool.{Bool, true, false, cond}
+use mathlib.Core.List.{List, [], _∷_, _++_}
+use mathlib.Core.Path.{_≡_}
+use Prim.Native.Nat.{ℕ, _≤_}
+use native.Mathlib.Omega.{arith}
+use lib.ListN.{length, take, replicate}
+use lib.Seq.{take-append-seam}
+use Rattle.zone.specs.declared.Zone.{Zone}
+use Rattle.rules.specs.declared.Call.{Call}
+use Rattle.rules.specs.Effects.{ruleAt, opening, firstLot, lotCount, effect}
+use Rattle.rules.specs.Events.{Done}
+use Rattle.rules.specs.Tables.{among}
+use Rattle.calls.specs.Laws.Swept.{sweep-few}
+use Rattle.calls.specs.Listed.{sweptOf}
+
+lots-few : (c : Call) → lotCount c ≤ 128
+unfolding lotCount
+lots-few c = go (among (c .kind) (1 ∷ 2 ∷ [])) (among (c .kind) (9 ∷ 11 ∷ 15 ∷ []))
+  where
+    go : (a b : Bool) → cond a 0 (cond b 128 1) ≤ 128
+    go true b = omega arith
+    go false true = omega arith
+    go false false = omega arith
+
+pub effect-few : (z : Zone) (c : Call) → length (effect z c .entries) ≤ 128
+unfolding effect
+effect-few z c = omega (arith, lots-few c, sweep-few (ruleAt c) (lotCount c) (firstLot c) (opening c z))
+
+-- the entries that stand in the array
+pub entries-listed : (d : Done) → take (sweptOf d .count) (sweptOf d .entries) ≡ d .entries
+unfolding sweptOf
+entries-listed d = take-append-seam (d .entries) _

@@ -1,0 +1,117 @@
+-- From the tests of an entry to what it returns and leaves.
+-- Assumes nothing.
+use mathlib.Core.Bool.{Bool, true, false, not, cond}
+use mathlib.Core.List.{List}
+use mathlib.Core.Path.{_≡_, refl, sym, ap, _∙_, subst}
+use Prim.Native.Nat.{ℕ, zero, suc, _≤_, _<_}
+use native.Mathlib.Omega.{arith}
+use borrow.Author.Tests.{lt-ltb, le-ltb, eq-eqb, ne-eqb, eqb-true}
+use lib.Dec.{eqb, ltb}
+use lib.ListN.{length}
+use Rattle.zone.specs.declared.Zone.{Zone}
+use Rattle.zone.specs.Laws.Tests.{both}
+use Rattle.zone.specs.Valid.{validZone}
+use Rattle.rules.specs.declared.Call.{Call}
+use Rattle.rules.specs.Effects.{effect}
+use Rattle.rules.specs.Order.{asRuled}
+use Rattle.rules.specs.Outcome.{numberOf}
+use Rattle.rules.specs.Sized.{Sized}
+use Rattle.image.specs.Image.{validImage, decode, encode}
+use Rattle.image.specs.Laws.RoundTrip.{decode-accounts, decode-receipts, decode-asks, valid-decode}
+use Rattle.crz.specs.Buffers.{callIn, refusedAnswer, acceptedAnswer}
+use Rattle.crz.specs.Returned.{numberOr, numberWith, numberFor, refusal, Left, turnedDown, carriedOut, ReturnedWith, Returned}
+
+-- ── The number ─────────────────────────────────────────────────────────────────────────────────
+
+module _ (image answer : List ℕ) (n : ℕ) where
+  pub short-number : length answer < 1040 → numberOr image answer n ≡ 1
+  unfolding numberOr
+  short-number h = rw (lt-ltb _ _ h)
+
+  module _ (long : 1040 ≤ length answer) where
+    pub image-number : validImage image ≡ false → numberOr image answer n ≡ 2
+    unfolding numberOr
+    image-number v = rw (le-ltb _ _ long, v)
+
+    pub call-number : validImage image ≡ true → numberOr image answer n ≡ n
+    unfolding numberOr
+    call-number v = rw (le-ltb _ _ long, v)
+
+-- the same of a call given by its fields
+module _ (image : List ℕ) (c : Call) (answer : List ℕ) where
+  pub short-with : length answer < 1040 → numberWith image c answer ≡ 1
+  unfolding numberWith
+  short-with h = short-number image answer _ h
+
+  pub image-with : 1040 ≤ length answer → validImage image ≡ false → numberWith image c answer ≡ 2
+  unfolding numberWith
+  image-with h v = image-number image answer _ h v
+
+  pub call-with : 1040 ≤ length answer → validImage image ≡ true → numberWith image c answer ≡ numberOf (decode image) c
+  unfolding numberWith
+  call-with h v = call-number image answer _ h v
+
+-- what a valid image is
+pub image-long : (image : List ℕ) → validImage image ≡ true → length image ≡ 5696
+unfolding validImage
+image-long image v = eqb-true _ _ (both _ _ (both _ _ v .0) .0)
+
+pub valid-zone : (image : List ℕ) (z : Zone) → validImage image ≡ true → z ≡ decode image → Sized z × (validZone z ≡ true)
+valid-zone image z v e =
+    subst (λ (y : Zone). Sized y × (validZone y ≡ true)) (sym e)
+    (record { accounts = decode-accounts image; receipts = decode-receipts image; asks = decode-asks image }, valid-decode image v)
+
+-- ── The answer of a refusal ────────────────────────────────────────────────────────────────────
+
+-- a refusal by 1 leaves the answer, any other fills it
+pub refusal-short : (answer : List ℕ) → refusal 1 answer ≡ answer
+unfolding refusal
+refusal-short answer = refl
+
+pub refusal-filled : (n r : ℕ) (answer answer′ : List ℕ) → r ≡ n → (n ≡ 1 → ⊥) → answer′ ≡ refusedAnswer n answer → answer′ ≡ refusal r answer
+unfolding refusal
+refusal-filled n r answer answer′ e h q = q ∙ sym (rw (e, ne-eqb n 1 h))
+
+-- ── What is returned ───────────────────────────────────────────────────────────────────────────
+
+refused-left : (image : List ℕ) (c : Call) (answer : List ℕ) (r : ℕ) (answer′ : List ℕ) → (r ≡ 0 → ⊥) → answer′ ≡ refusal r answer →
+    Left image c answer r image answer′
+refused-left image c answer zero answer′ h e = absurd (h refl)
+refused-left image c answer (suc n) answer′ h e = subst (Left image c answer (suc n) image) (sym e) (turnedDown n)
+
+module _ (image : List ℕ) (c : Call) (answer : List ℕ) (r : ℕ) where
+  pub refused-with : (answer′ : List ℕ) → r ≡ numberWith image c answer → (r ≡ 0 → ⊥) → answer′ ≡ refusal r answer →
+      ReturnedWith image c answer r image answer′
+  refused-with answer′ is h e = record { is = is; left = refused-left image c answer r answer′ h e }
+
+  pub done-with : (image′ answer′ : List ℕ) → r ≡ 0 → 0 ≡ numberWith image c answer → image′ ≡ encode (effect (decode image) c .zone)
+      → answer′ ≡ acceptedAnswer (effect (decode image) c .zone) (effect (decode image) c .entries) answer
+      → ReturnedWith image c answer r image′ answer′
+  done-with image′ answer′ z is ei ea =
+      record {
+        is = z ∙ is;
+        left = rw (z, ei, ea) (carriedOut (effect (decode image) c .entries) asRuled);
+      }
+
+module _ (image call answer : List ℕ) (r : ℕ) (image′ answer′ : List ℕ) where
+  -- a record of 24 bytes is the call of its fields
+  pub returned-record : length call ≡ 24 → ReturnedWith image (callIn call) answer r image′ answer′ → Returned image call answer r image′ answer′
+  unfolding numberFor
+  returned-record h R = record { is = R .is ∙ rw (eq-eqb _ _ h); left = R .left }
+
+-- 3 is refused, if nothing before it is
+never-done : (image answer : List ℕ) (r : ℕ) → r ≡ numberOr image answer 3 → r ≡ 0 → ⊥
+unfolding numberOr
+never-done image answer r is z = go (ltb (length answer) 1040) (validImage image) (sym z ∙ is)
+  where
+    go : (a b : Bool) → _≡_ {A = ℕ} 0 (cond a 1 (cond (not b) 2 3)) → ⊥
+    go true b q = omega arith
+    go false true q = omega arith
+    go false false q = omega arith
+
+-- any other record is refused
+pub returned-rejected : (image call answer : List ℕ) (r : ℕ) (answer′ : List ℕ) → (length call ≡ 24 → ⊥) → r ≡ numberOr image answer 3
+    → answer′ ≡ refusal r answer → Returned image call answer r image answer′
+unfolding numberFor
+returned-rejected image call answer r answer′ h is e =
+    record { is = is ∙ rw (ne-eqb _ _ h); left = refused-left image (callIn call) answer r answer′ (never-done image answer r is) e }

@@ -1,0 +1,4 @@
+pub mod Fresh
+pub mod Buffers
+pub mod Returned
+pub mod Laws

@@ -1,0 +1,201 @@
+// The entries that a C host calls.
+ghost use mathlib.Core.Path.{_≡_};
+ghost use mathlib.Core.Bool.{true};
+ghost use Prim.Native.Nat.{_+_, _≤_, _<_};
+ghost use lib.ListN.{length, take};
+ghost use lib.Seq.{sets};
+ghost use Rattle.zone.specs.Valid.{validZone};
+ghost use Rattle.rules.specs.Effects.{effect};
+ghost use Rattle.rules.specs.Outcome.{numberOf};
+ghost use Rattle.rules.specs.Sized.{Sized};
+ghost use Rattle.image.specs.Image.{encode};
+ghost use Rattle.image.specs.Table.{tableBytes};
+ghost use Rattle.crz.specs.Buffers.{callIn, entryBytes, headerOf, refusedAnswer, acceptedAnswer};
+ghost use Rattle.crz.specs.Fresh.{freshEntry};
+ghost use Rattle.crz.specs.Returned.{numberOr, refusal, Returned, ReturnedWith};
+use calls::Swept;
+use rules::Call;
+use rules::Entry;
+use zone::Zone;
+
+// ── Call record and answer ──────────────────────────────────────────────────────────────────────
+
+fn wide(x: u8) -> u32
+    ensures { λ r. ⌜ (r ≡ x) × (r < 256) ⌝ }
+{
+    x as u32
+}
+
+fn call_in(s: &[u8]) -> Call
+    requires { ⌜ length (now s) ≡ 24 ⌝ }
+    ensures { λ r. ⌜ r ≡ callIn (now (s .entry)) ⌝ }
+{
+    let spare = (wire::get_u16(s, 5) as u32) + wide(s[7]) * 65536;
+    let amount = wire::get_u64(s, 8);
+    let basis = wire::get_i32(s, 16);
+    let weight = wire::get_u32(s, 20);
+    Call {
+        kind: s[0],
+        account: s[1],
+        receipt: s[2],
+        contract: s[3],
+        days: s[4],
+        spare: spare,
+        amount: amount,
+        basis: basis,
+        weight: weight,
+    }
+}
+
+// A refusal: the number, and zeros behind it.
+fn refuse(answer: &mut [u8], n: u8) -> u32
+    requires { ⌜ 1040 ≤ length (now answer) ⌝ }
+    ensures { λ r. ⌜ (r ≡ n) × (now (answer .exit) ≡ refusedAnswer n (now (answer .entry))) ⌝ }
+{
+    wire::put_zeros(answer, 0, 1040);
+    answer[0] = n;
+    n as u32
+}
+
+fn entry_bytes(e: Entry) -> [u8; 8]
+    ensures { λ r. ⌜ r ≡ entryBytes e ⌝ }
+{
+    let n = e.number;
+    [
+        e.lot,
+        e.outcome,
+        e.from,
+        e.to,
+        (n % 256) as u8,
+        (n / 256 % 256) as u8,
+        (n / 256 / 256 % 256) as u8,
+        (n / 256 / 256 / 256 % 256) as u8,
+    ]
+}
+
+fn put_entry(answer: &mut [u8], at: usize, e: Entry)
+    requires { ⌜ at + 8 ≤ length (now answer) ⌝ }
+    ensures { λ _. ⌜ now (answer .exit) ≡ sets (now (answer .entry)) at (entryBytes e) ⌝ }
+{
+    let b = entry_bytes(e);
+    wire::put_run(answer, at, &b);
+}
+
+// The first `count` entries, from byte 16 on.
+fn put_entries(answer: &mut [u8], entries: [Entry; 128], count: usize)
+    requires { ⌜ (1040 ≤ length (now answer)) × (count ≤ 128) ⌝ }
+    ensures { λ _. ⌜ now (answer .exit) ≡ sets (now (answer .entry)) 16 (tableBytes entryBytes (take count entries)) ⌝ }
+{
+    let mut i: usize = 0;
+    while i < count {
+        put_entry(answer, 16 + i * 8, entries[i]);
+        i += 1;
+    }
+}
+
+fn answer_header(afternoon: bool, count: usize, total: u64) -> [u8; 16]
+    ensures { λ r. ⌜ r ≡ headerOf afternoon count total ⌝ }
+{
+    [
+        0,
+        image::phase(afternoon),
+        (count % 256) as u8,
+        (count / 256 % 256) as u8,
+        16,
+        0,
+        0,
+        0,
+        (total % 256) as u8,
+        (total / 256 % 256) as u8,
+        (total / 256 / 256 % 256) as u8,
+        (total / 256 / 256 / 256 % 256) as u8,
+        (total / 256 / 256 / 256 / 256 % 256) as u8,
+        (total / 256 / 256 / 256 / 256 / 256 % 256) as u8,
+        (total / 256 / 256 / 256 / 256 / 256 / 256 % 256) as u8,
+        (total / 256 / 256 / 256 / 256 / 256 / 256 / 256 % 256) as u8,
+    ]
+}
+
+// The answer of an accepted call.
+fn fill_answer(answer: &mut [u8], s: Swept)
+    requires { ⌜ (1040 ≤ length (now answer)) × (s .count ≤ 128) ⌝ }
+    ensures { λ _. ⌜ now (answer .exit) ≡ acceptedAnswer (s .zone) (take (s .count) (s .entries)) (now (answer .entry)) ⌝ }
+{
+    let z = s.zone;
+    let count = s.count;
+    let entries = s.entries;
+    let h = answer_header(z.afternoon, count, z.total.0);
+    wire::put_zeros(answer, 0, 1040);
+    wire::put_run(answer, 0, &h);
+    put_entries(answer, entries, count);
+}
+
+// ── A call ──────────────────────────────────────────────────────────────────────────────────────
+
+// An accepted call: the image of the zone after it, and the answer.
+fn carry_out(image: &mut [u8], answer: &mut [u8], z: Zone, c: Call) -> u32
+    requires { ⌜ (length (now image) ≡ 5696) × (1040 ≤ length (now answer)) × Sized z × (validZone z ≡ true) × (numberOf z c ≡ 0) ⌝ }
+    ensures { λ r. ⌜ (r ≡ 0) × (now (image .exit) ≡ encode (effect z c .zone)) × (now (answer .exit) ≡ acceptedAnswer (effect z c .zone) (effect z c .entries) (now (answer .entry))) ⌝ }
+{
+    let s = calls::perform(z, c);
+    fill_answer(answer, s);
+    let after = s.zone;
+    image::write_image(image, after);
+    0
+}
+
+// A call given by its fields.
+pub fn make_call(image: &mut [u8], c: Call, answer: &mut [u8]) -> u32
+    ensures { λ r. ⌜ ReturnedWith (now (image .entry)) c (now (answer .entry)) r (now (image .exit)) (now (answer .exit)) ⌝ }
+{
+    if answer.len() < 1040 {
+        return 1;
+    }
+    let reading = image::read_image(image);
+    if !reading.ok {
+        return refuse(answer, 2);
+    }
+    let z = reading.zone;
+    let n = calls::number_of(z, c);
+    if n != 0 {
+        return refuse(answer, n);
+    }
+    carry_out(image, answer, z, c)
+}
+
+// A record that is no call: 3, unless a buffer is refused before it.
+fn reject_record(image: &[u8], answer: &mut [u8]) -> u32
+    ensures { λ r. ⌜ (r ≡ numberOr (now (image .entry)) (now (answer .entry)) 3) × (now (answer .exit) ≡ refusal r (now (answer .entry))) ⌝ }
+{
+    if answer.len() < 1040 {
+        return 1;
+    }
+    let reading = image::read_image(image);
+    if !reading.ok {
+        return refuse(answer, 2);
+    }
+    refuse(answer, 3)
+}
+
+// Makes a call on an image. Returns 0 and writes image and answer, or a refusal's number: 1 writes nothing, any other fills the answer.
+#[no_mangle]
+pub extern "C" fn crz_call(image: &mut [u8], call: &[u8], answer: &mut [u8]) -> u32
+    ensures { λ r. ⌜ Returned (now (image .entry)) (now (call .entry)) (now (answer .entry)) r (now (image .exit)) (now (answer .exit)) ⌝ }
+{
+    if call.len() != 24 {
+        return reject_record(image, answer);
+    }
+    make_call(image, call_in(call), answer)
+}
+
+// Writes a fresh image and returns 0; a buffer of another length than 5,696 is left as it is, with 2.
+#[no_mangle]
+pub extern "C" fn crz_fresh(image: &mut [u8]) -> u32
+    ensures { λ r. ⌜ (r, now (image .exit)) ≡ freshEntry (now (image .entry)) ⌝ }
+{
+    if image.len() != 5696 {
+        return 2;
+    }
+    image::write_image(image, zone::fresh_zone());
+    0
+}

@@ -1,0 +1,9 @@
+pub mod Table
+pub mod Bytes
+pub mod Layout
+pub mod Fields
+pub mod Records
+pub mod Turns
+pub mod Verdict
+pub mod Books
+pub mod RoundTrip

@@ -1,0 +1,51 @@
+-- How many bytes each part of an image has, and how many elements its tables.
+-- Assumes nothing.
+use mathlib.Core.Bool.{Bool}
+use mathlib.Core.List.{List}
+use mathlib.Core.Path.{_≡_, refl}
+use Prim.Native.Nat.{ℕ}
+use lib.ListN.{length}
+use Rattle.units.specs.declared.YuanPerTonne.{YuanPerTonne}
+use Rattle.wire.specs.LittleEndian.{leBytes}
+use Rattle.zone.specs.declared.Account.{Account}
+use Rattle.zone.specs.declared.Receipt.{Receipt}
+use Rattle.zone.specs.declared.Record.{Record}
+use Rattle.zone.specs.Record.{recordOf}
+use Rattle.image.specs.Layout.{headerBytes, accountBytes, askBytes, recordBytes, receiptBytes, accountsIn, asksIn, recordsIn, receiptsIn}
+use Rattle.image.specs.Laws.Table.{length-table}
+
+pub header-wide : (day : ℕ) (afternoon : Bool) (total : ℕ) → length (headerBytes day afternoon total) ≡ 32
+unfolding headerBytes leBytes
+header-wide day afternoon total = refl
+
+pub account-wide : (a : Account) → length (accountBytes a) ≡ 16
+unfolding accountBytes leBytes
+account-wide a = refl
+
+pub ask-wide : (a : YuanPerTonne) → length (askBytes a) ≡ 4
+unfolding askBytes leBytes
+ask-wide a = refl
+
+pub record-wide : (r : Record) → length (recordBytes r) ≡ 32
+unfolding recordBytes leBytes
+record-wide r = refl
+
+pub receipt-wide : (r : Receipt) → length (receiptBytes r) ≡ 32
+unfolding receiptBytes
+receipt-wide r = record-wide (recordOf r)
+
+pub length-accounts : (s : List ℕ) → length (accountsIn s) ≡ 96
+unfolding accountsIn
+length-accounts s = length-table 96 _
+
+pub length-asks : (s : List ℕ) → length (asksIn s) ≡ 8
+unfolding asksIn
+length-asks s = length-table 8 _
+
+pub length-records : (s : List ℕ) → length (recordsIn s) ≡ 128
+unfolding recordsIn
+length-records s = length-table 128 _
+
+pub length-receipts : (s : List ℕ) → length (receiptsIn s) ≡ 128
+unfolding receiptsIn
+length-receipts s = length-table 128 _

@@ -1,0 +1,262 @@
+-- The header and each record, and their bytes: what was written is read (`-read`), and what was read is written (`-written`).
+-- Assumes nothing.
+use mathlib.Core.Bool.{Bool, true, false, cond, _||_}
+use mathlib.Core.List.{List, [], _∷_, _++_}
+use mathlib.Core.Path.{_≡_, refl, sym, ap, _∙_}
+use Prim.Native.Nat.{ℕ, zero, suc, _+_, _^_, _≤_, _<_}
+use native.Mathlib.Decide.{ℕ-discrete}
+use native.Mathlib.Omega.{arith}
+use borrow.Author.Tests.{leb-true, eqb-true, eq-eqb, ne-eqb}
+use lib.Dec.{eqb, lit≤, lit<}
+use lib.IntN.{ℤ, pos, negsuc}
+use lib.ListN.{length, take, drop, getD, length-drop}
+use lib.Seq.{take-suc, take-add, take-all, getD-drop}
+use lib.Signed.{leZ}
+use mir.Syntax.{w32}
+use mir.Val.{SFits}
+use Rattle.units.specs.declared.YuanPerTonne.{YuanPerTonne}
+use Rattle.units.specs.Payments.{fen}
+use Rattle.units.specs.Ranges.{isBasis, isPrice}
+use Rattle.wire.specs.LittleEndian.{leAt, leBytes, signed32, bits32}
+use Rattle.wire.specs.Laws.Bytes.{Bytes, leAt-leBytes, leBytes-leAt, leAt-lt, bytes-leBytes, bytes-zeros}
+use Rattle.wire.specs.Laws.TwosComplement.{signed-bits, bits-signed, bits-lt}
+use Rattle.zone.specs.declared.Account.{Account}
+use Rattle.zone.specs.declared.Record.{Record}
+use Rattle.zone.specs.Valid.{recordValid, askOk}
+use Rattle.zone.specs.Laws.Facts.{bounds}
+use Rattle.zone.specs.Laws.Held.{invoice-bounds}
+use Rattle.zone.specs.Laws.Tests.{both, price-at-most}
+use Rattle.image.specs.Table.{table}
+use Rattle.image.specs.Layout.{headerOk, headerBytes, dayIn, afternoonIn, totalIn, accountIn, accountBytes, askIn, askBytes, recordIn, recordBytes}
+use Rattle.image.specs.Laws.Bytes.{bytes-cons, bytes-append}
+use Rattle.image.specs.Laws.Fields.{record-eq}
+
+-- ── What was written is read ───────────────────────────────────────────────────────────────────
+
+module _ (day : ℕ) (afternoon : Bool) (total : ℕ) (rest : List ℕ) where
+  pub header-ok : headerOk (headerBytes day afternoon total ++ rest) ≡ true
+  unfolding headerOk headerBytes leAt leBytes
+  header-ok = go afternoon
+    where
+      go : (a : Bool) → headerOk (headerBytes day a total ++ rest) ≡ true
+      go true = refl
+      go false = refl
+
+  pub day-read : day < 2 ^ 16 → dayIn (headerBytes day afternoon total ++ rest) ≡ day
+  unfolding headerBytes leAt leBytes
+  day-read h = leAt-leBytes 2 day [] [] h
+
+  pub afternoon-read : afternoonIn (headerBytes day afternoon total ++ rest) ≡ afternoon
+  unfolding headerBytes leBytes
+  afternoon-read = go afternoon
+    where
+      go : (a : Bool) → eqb (cond a 1 0) 1 ≡ a
+      go true = refl
+      go false = refl
+
+  pub total-read : total < 2 ^ 64 → totalIn (headerBytes day afternoon total ++ rest) ≡ total
+  unfolding headerBytes leAt leBytes
+  total-read h = leAt-leBytes 8 total [] [] h
+
+pub account-read : (a : Account) → a .free .0 < 2 ^ 64 → a .frozen .0 < 2 ^ 64 → accountIn (accountBytes a) ≡ a
+unfolding accountIn accountBytes leAt leBytes
+account-read a h g = λ j. record { free = fen (leAt-leBytes 8 (a .free .0) [] [] h j); frozen = fen (leAt-leBytes 8 (a .frozen .0) [] [] g j) }
+
+pub ask-read : (a : YuanPerTonne) → a .0 < 2 ^ 32 → askIn (askBytes a) ≡ a
+unfolding askIn askBytes leAt leBytes
+ask-read a h = λ j. record { 0 = leAt-leBytes 4 (a .0) [] [] h j }
+
+basis-fits : (b : ℤ) → isBasis b ≡ true → SFits w32 b
+basis-fits (pos n) h = record { sfits = omega (arith, leb-true n 50000 (both (leZ (negsuc 49999) (pos n)) _ h .1)) }
+basis-fits (negsuc n) h = record { sfits = omega (arith, leb-true n 49999 (both (leZ (negsuc 49999) (negsuc n)) _ h .0)) }
+
+pub record-read : (r : Record) → recordValid r ≡ true → recordIn (recordBytes r) ≡ r
+unfolding recordIn recordBytes leAt leBytes
+record-read r v =
+    let B = bounds r v in
+    let I = invoice-bounds r v in
+    let s = basis-fits (r .basis .0) (B .basis) in
+    record-eq
+    (leAt-leBytes 2 (r .due) [] [] (omega (arith, B .due)))
+    (leAt-leBytes 4 (r .weight .0) [] [] (omega (arith, B .weight)))
+    (ap signed32 (leAt-leBytes 4 (bits32 (r .basis .0)) [] [] (bits-lt (r .basis .0) s)) ∙ signed-bits (r .basis .0) s)
+    (leAt-leBytes 4 (r .price .0) [] [] (omega (arith, B .price)))
+    (leAt-leBytes 4 (r .pending .0) [] [] (omega (arith, I .pending)))
+    (leAt-leBytes 4 (r .confirmed .0) [] [] (omega (arith, I .confirmed)))
+    (leAt-leBytes 4 (r .paid .0) [] [] (omega (arith, I .paid)))
+
+-- a number behind bytes
+bytes-number : (s : List ℕ) (w v : ℕ) → Bytes s → Bytes (s ++ leBytes w v)
+bytes-number s w v b = bytes-append s (leBytes w v) b (bytes-leBytes w v)
+
+-- the bytes of a valid record are bytes
+pub record-bytes : (r : Record) → recordValid r ≡ true → Bytes (recordBytes r)
+unfolding recordBytes
+record-bytes r v =
+    let B = bounds r v in
+    let s5 : List ℕ = r .days ∷ leBytes 2 (r .due) in
+    let s4 : List ℕ = r .contract ∷ s5 in
+    let s3 : List ℕ = r .buyer ∷ s4 in
+    let s2 : List ℕ = r .seller ∷ s3 in
+    let s1 : List ℕ = r .state ∷ s2 in
+    let s0 : List ℕ = r .owner ∷ s1 in
+    let weight = s0 ++ leBytes 4 (r .weight .0) in
+    let basis = weight ++ leBytes 4 (bits32 (r .basis .0)) in
+    let price = basis ++ leBytes 4 (r .price .0) in
+    let pending = price ++ leBytes 4 (r .pending .0) in
+    let confirmed = pending ++ leBytes 4 (r .confirmed .0) in
+    let b5 : Bytes s5 = bytes-cons (r .days) (leBytes 2 (r .due)) (omega (arith, B .days)) (bytes-leBytes 2 (r .due)) in
+    let b4 : Bytes s4 = bytes-cons (r .contract) s5 (omega (arith, B .contract)) b5 in
+    let b3 : Bytes s3 = bytes-cons (r .buyer) s4 (omega (arith, B .buyer)) b4 in
+    let b2 : Bytes s2 = bytes-cons (r .seller) s3 (omega (arith, B .seller)) b3 in
+    let b1 : Bytes s1 = bytes-cons (r .state) s2 (omega (arith, B .state)) b2 in
+    let b0 : Bytes s0 = bytes-cons (r .owner) s1 (omega (arith, B .owner)) b1 in
+    bytes-number confirmed 4 (r .paid .0)
+    (bytes-number pending 4 (r .confirmed .0)
+    (bytes-number price 4 (r .pending .0)
+    (bytes-number basis 4 (r .price .0)
+    (bytes-number weight 4 (bits32 (r .basis .0)) (bytes-number s0 4 (r .weight .0) b0)))))
+
+-- the header's bytes are bytes
+phase-byte : (a : Bool) → cond a 1 0 < 256
+phase-byte true = lit< tt
+phase-byte false = lit< tt
+
+pub header-bytes : (day : ℕ) (afternoon : Bool) (total : ℕ) → Bytes (headerBytes day afternoon total)
+unfolding headerBytes
+header-bytes day afternoon total =
+    let s2 = leBytes 2 96 ++ leBytes 2 128 in
+    let s4 = s2 ++ leBytes 2 8 in
+    let s6 = s4 ++ leBytes 2 day in
+    let s8 = s6 ++ leBytes 4 32 in
+    let s12 = s8 ++ leBytes 4 1568 in
+    let s16 = s12 ++ leBytes 4 1600 in
+    let phase : List ℕ = cond afternoon 1 0 ∷ 0 ∷ 0 ∷ 0 ∷ [] in
+    let numbers : Bytes s16 =
+    bytes-number s12 4 1600
+    (bytes-number s8 4 1568 (bytes-number s6 4 32 (bytes-number s4 2 day (bytes-number s2 2 8 (bytes-number (leBytes 2 96) 2 128 (bytes-leBytes 2 96)))))) in
+    bytes-number (s16 ++ phase) 8 total (bytes-append s16 phase numbers (bytes-cons (cond afternoon 1 0) (0 ∷ 0 ∷ 0 ∷ []) (phase-byte afternoon) (bytes-zeros 3)))
+
+pub account-bytes : (a : Account) → Bytes (accountBytes a)
+unfolding accountBytes
+account-bytes a = bytes-number (leBytes 8 (a .free .0)) 8 (a .frozen .0) (bytes-leBytes 8 (a .free .0))
+
+pub ask-bytes : (a : YuanPerTonne) → Bytes (askBytes a)
+unfolding askBytes
+ask-bytes a = bytes-leBytes 4 (a .0)
+
+-- an ask that is none or a price is at most 200,000
+pub ask-at-most : (a : YuanPerTonne) → askOk a ≡ true → a .0 ≤ 200000
+unfolding askOk
+ask-at-most a h = go (eqb (a .0) 0) refl h
+  where
+    go : (b : Bool) → eqb (a .0) 0 ≡ b → b || isPrice (a .0) ≡ true → a .0 ≤ 200000
+    go true e p = omega (arith, eqb-true (a .0) 0 e)
+    go false e p = price-at-most (a .0) p
+
+-- ── What was read is written ───────────────────────────────────────────────────────────────────
+
+-- the first n bytes, one by one
+take-table : (n : ℕ) (s : List ℕ) → n ≤ length s → take n s ≡ table n (λ i. getD s i 0)
+unfolding table
+take-table zero s h = refl
+take-table (suc n) s h = take-suc s n 0 h ∙ ap (λ (l : List ℕ). l ++ (getD s n 0 ∷ [])) (take-table n s (omega arith))
+
+-- a run of bytes behind the first n
+pub run : (s : List ℕ) (n m : ℕ) → take n s ++ take m (drop n s) ≡ take (n + m) s
+run s n m = sym (take-add n m s)
+
+pub account-written : (b : List ℕ) → Bytes b → length b ≡ 16 → accountBytes (accountIn b) ≡ b
+unfolding accountBytes accountIn
+account-written b B n =
+    let h : length b ≤ 16 = omega arith in
+    rw (leBytes-leAt 8 b 0 B (omega arith), leBytes-leAt 8 b 8 B (omega arith), run b 8 8) (take-all 16 b h)
+
+pub ask-written : (b : List ℕ) → Bytes b → length b ≡ 4 → askBytes (askIn b) ≡ b
+unfolding askBytes askIn
+ask-written b B n =
+    let h : length b ≤ 4 = omega arith in
+    rw (leBytes-leAt 4 b 0 B (omega arith)) (take-all 4 b h)
+
+pub record-written : (b : List ℕ) → Bytes b → length b ≡ 32 → recordBytes (recordIn b) ≡ b
+unfolding recordBytes recordIn table
+record-written b B n =
+    let six : getD b 0 0 ∷ getD b 1 0 ∷ getD b 2 0 ∷ getD b 3 0 ∷ getD b 4 0 ∷ getD b 5 0 ∷ [] ≡ take 6 b = sym (take-table 6 b (omega arith)) in
+    let h : length b ≤ 32 = omega arith in
+    rw (bits-signed (leAt 4 b 12) (leAt-lt 4 b 12 B), leBytes-leAt 2 b 6 B (omega arith), leBytes-leAt 4 b 8 B (omega arith), leBytes-leAt 4 b 12 B (omega arith), leBytes-leAt 4 b 16 B (omega arith), leBytes-leAt 4 b 20 B (omega arith), leBytes-leAt 4 b 24 B (omega arith), leBytes-leAt 4 b 28 B (omega arith))
+    (ap (λ (l : List ℕ). l ++ take 2 (drop 6 b) ++ take 4 (drop 8 b) ++ take 4 (drop 12 b) ++ take 4 (drop 16 b) ++ take 4 (drop 20 b) ++ take 4 (drop 24 b) ++ take 4 (drop 28 b)) six
+    ∙ rw (run b 6 2, run b 8 4, run b 12 4, run b 16 4, run b 20 4, run b 24 4, run b 28 4) (take-all 32 b h))
+
+phase-is : (p : ℕ) → p ≤ 1 → cond (eqb p 1) 1 0 ≡ p
+phase-is p h = go (ℕ-discrete p 1)
+  where
+    go : Dec (p ≡ 1) → cond (eqb p 1) 1 0 ≡ p
+    go (yes e) = rw (eq-eqb p 1 e) (sym e)
+    go (no n) = rw (ne-eqb p 1 n) (omega arith)
+
+-- the header's test, number by number
+record HeaderIn (s : List ℕ) : Type 0 where
+  accounts : leAt 2 s 0 ≡ 96
+  receipts : leAt 2 s 2 ≡ 128
+  contracts : leAt 2 s 4 ≡ 8
+  accounts-at : leAt 4 s 8 ≡ 32
+  contracts-at : leAt 4 s 12 ≡ 1568
+  receipts-at : leAt 4 s 16 ≡ 1600
+  phase : getD s 20 0 ≤ 1
+  zero-1 : getD s 21 0 ≡ 0
+  zero-2 : getD s 22 0 ≡ 0
+  zero-3 : getD s 23 0 ≡ 0
+
+header-in : (s : List ℕ) → headerOk s ≡ true → HeaderIn s
+unfolding headerOk
+header-in s h =
+    let t1 = both _ _ h in
+    let t2 = both _ _ (t1 .0) in
+    let t3 = both _ _ (t2 .0) in
+    let t4 = both _ _ (t3 .0) in
+    let t5 = both _ _ (t4 .0) in
+    let t6 = both _ _ (t5 .0) in
+    let t7 = both _ _ (t6 .0) in
+    let t8 = both _ _ (t7 .0) in
+    let t9 = both _ _ (t8 .0) in
+    record {
+      accounts = eqb-true _ _ (t9 .0);
+      receipts = eqb-true _ _ (t9 .1);
+      contracts = eqb-true _ _ (t8 .1);
+      accounts-at = eqb-true _ _ (t7 .1);
+      contracts-at = eqb-true _ _ (t6 .1);
+      receipts-at = eqb-true _ _ (t5 .1);
+      phase = leb-true _ _ (t4 .1);
+      zero-1 = eqb-true _ _ (t3 .1);
+      zero-2 = eqb-true _ _ (t2 .1);
+      zero-3 = eqb-true _ _ (t1 .1);
+    }
+
+pub header-written : (s : List ℕ) → Bytes s → 32 ≤ length s → headerOk s ≡ true → headerBytes (dayIn s) (afternoonIn s) (totalIn s) ≡ take 32 s
+unfolding headerBytes table
+header-written s B n ok =
+    let H = header-in s ok in
+    let num : (w at v : ℕ) → at + w ≤ 32 → leAt w s at ≡ v → leBytes w v ≡ take w (drop at s) =
+    λ w at v h e. ap (leBytes w) (sym e) ∙ leBytes-leAt w s at B (omega arith) in
+    let four : cond (afternoonIn s) 1 0 ∷ 0 ∷ 0 ∷ 0 ∷ [] ≡ take 4 (drop 20 s) =
+    rw (take-table 4 (drop 20 s) (rw length-drop (omega arith)), getD-drop 20 s 0 0, getD-drop 20 s 1 0, getD-drop 20 s 2 0, getD-drop 20 s 3 0, H .zero-1, H .zero-2, H .zero-3)
+    (ap (λ (p : ℕ). p ∷ 0 ∷ 0 ∷ 0 ∷ []) (phase-is (getD s 20 0) (H .phase))) in
+    rw (
+      num 2 0 96 (lit≤ tt) (H .accounts),
+      num 2 2 128 (lit≤ tt) (H .receipts),
+      num 2 4 8 (lit≤ tt) (H .contracts),
+      num 2 6 (dayIn s) (lit≤ tt) refl,
+      num 4 8 32 (lit≤ tt) (H .accounts-at),
+      num 4 12 1568 (lit≤ tt) (H .contracts-at),
+      num 4 16 1600 (lit≤ tt) (H .receipts-at),
+      four,
+      num 8 24 (totalIn s) (lit≤ tt) refl,
+      run s 2 2,
+      run s 4 2,
+      run s 6 2,
+      run s 8 4,
+      run s 12 4,
+      run s 16 4,
+      run s 20 4,
+      run s 24 8,
+    )

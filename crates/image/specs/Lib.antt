@@ -1,0 +1,5 @@
+pub mod Table
+pub mod Layout
+pub mod Image
+pub mod Sums
+pub mod Laws

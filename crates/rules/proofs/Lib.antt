@@ -1,0 +1,3 @@
+pub mod AtIndex
+pub mod KindsLaws
+pub mod NumbersLaws

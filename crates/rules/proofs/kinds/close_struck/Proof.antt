@@ -1,0 +1,51 @@
+-- As in `close_lodged`.
+-- Assumes nothing.
+use mathlib.Core.Path.{sym, _∙_}
+use borrow.Author.Needs.{needs}
+use Rattle.rules.proofs.kinds.close_struck.Statement.{statement}
+use Rattle.rules.proofs.kinds.close_struck.Tie as tie
+
+full-of-requires : tie.Need-full-of-requires
+full-of-requires c κs = search needs
+
+has-money-requires : tie.Need-has-money-requires
+has-money-requires c κs = search needs
+
+add-t9 : tie.Need-add-t9
+add-t9 c = search needs
+
+by-seller-requires : tie.Need-by-seller-requires
+by-seller-requires c κs = search needs
+
+with-lot-requires : tie.Need-with-lot-requires
+with-lot-requires c κs = search needs
+
+by-buyer-requires : tie.Need-by-buyer-requires
+by-buyer-requires c κs = search needs
+
+with-lot-requires-2 : tie.Need-with-lot-requires-2
+with-lot-requires-2 c κs = search needs
+
+returns : tie.Need-returns
+returns c =
+    let money = rw (c .before .before .before .before .before .full-of .ensures) at (sym (c .before .before .before .before .has-money .ensures) ∙ c .before .before .before .if1 .taken) in
+    rw (c .before .by-seller .ensures, c .with-lot .ensures, money)
+
+returns-2 : tie.Need-returns-2
+returns-2 c =
+    let money = rw (c .before .before .before .before .full-of .ensures) at (sym (c .before .before .before .has-money .ensures) ∙ c .before .before .if1 .left) in
+    rw (c .before .by-buyer .ensures, c .with-lot2 .ensures, money)
+
+pub close-struck-spec : {M : Type 1} → statement M
+close-struck-spec =
+    tie.close
+    (tie.spec
+    full-of-requires
+    has-money-requires
+    add-t9
+    by-seller-requires
+    with-lot-requires
+    by-buyer-requires
+    with-lot-requires-2
+    returns
+    returns-2)

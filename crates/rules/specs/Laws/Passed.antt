@@ -1,0 +1,106 @@
+-- What number 0 tells: no test of the table applies. This is all that a proof reads of the numbers.
+-- Assumes nothing.
+use mathlib.Core.Bool.{Bool, true, false, cond}
+use mathlib.Core.List.{List, [], _∷_}
+use mathlib.Core.Path.{_≡_, refl, subst}
+use Prim.Native.Nat.{ℕ, suc}
+use native.Mathlib.Omega.{arith}
+use borrow.Author.Tests.{not-false}
+use Rattle.units.specs.Ranges.{within}
+use Rattle.zone.specs.declared.Record.{Record}
+use Rattle.zone.specs.declared.Zone.{Zone}
+use Rattle.zone.specs.Laws.Tests.{both}
+use Rattle.zone.specs.Record.{recordOf}
+use Rattle.rules.specs.declared.Call.{Call}
+use Rattle.rules.specs.declared.View.{View}
+use Rattle.rules.specs.Laws.Kinds.{withKind}
+use Rattle.rules.specs.Numbers.{Field, values, valueAt, inRange, brackets, unusedZero, illFormed, outOfRange, wrongPhase, wrongState, inStateNamed, wrongParty, isPartyNamed, notAbove, noAsk, notPayable, noMoney, aboveLimit, aboveInvoice, number}
+use Rattle.rules.specs.Outcome.{numberOf}
+use Rattle.rules.specs.View.{viewOf, receiptAt}
+
+pub record Passed (v : View) (c : Call) (f : Record) : Type 0 where
+  pub form : illFormed c ≡ false
+  pub range : outOfRange c ≡ false
+  pub phase : wrongPhase v c ≡ false
+  pub state : wrongState c f ≡ false
+  pub party : wrongParty c f ≡ false
+  pub height : notAbove c f ≡ false
+  pub ask : noAsk v c ≡ false
+  pub payable : notPayable v c f ≡ false
+  pub money : noMoney v c f ≡ false
+  pub limit : aboveLimit v c ≡ false
+  pub invoice : aboveInvoice c f ≡ false
+
+next : {X : Type 0} (t : Bool) (n m : ℕ) → cond t (suc n) m ≡ 0 → (t ≡ false → m ≡ 0 → X) → X
+next true n m h f = absurd (omega arith)
+next false n m h f = f refl h
+
+pub passed-all : (v : View) (c : Call) (f : Record) → number v c f ≡ 0 → Passed v c f
+unfolding number
+passed-all v c f h =
+    next _ _ _ h λ e3 h. next _ _ _ h λ e4 h. next _ _ _ h λ e5 h. next _ _ _ h λ e6 h. next _ _ _ h λ e7 h. next _ _ _ h λ e8 h.
+    next _ _ _ h λ e9 h. next _ _ _ h λ e10 h. next _ _ _ h λ e11 h. next _ _ _ h λ e12 h. next _ _ _ h λ e13 h.
+    record {
+      form = e3;
+      range = e4;
+      phase = e5;
+      state = e6;
+      party = e7;
+      height = e8;
+      ask = e9;
+      payable = e10;
+      money = e11;
+      limit = e12;
+      invoice = e13;
+    }
+
+-- the tests of call c at lot n of zone z
+abbrev pub PassedAt : Call → Zone → ℕ → Type 0
+PassedAt c z n =
+    let r = receiptAt (z .receipts) n in
+    Passed (viewOf z (c .account) r) c (recordOf r)
+
+pub passed-at : (z : Zone) (c : Call) → numberOf z c ≡ 0 → PassedAt c z (c .receipt)
+unfolding numberOf
+passed-at z c h = passed-all _ c _ h
+
+-- at a kind written out, the tests compute
+pub as-kind : {v : View} {f : Record} (c : Call) (k : ℕ) → c .kind ≡ k → Passed v c f → Passed v (withKind c k) f
+as-kind {v} {f} c k e P = subst (λ (j : ℕ). Passed v (withKind c j) f) e P
+
+-- ── The fields of a call ───────────────────────────────────────────────────────────────────────
+
+-- each field of the list is in its range
+abbrev pub InRanges : List Field → Call → Type 0
+InRanges [] c = Unit {0}
+InRanges (f ∷ fs) c = (f .range (valueAt (f .place) (values c)) ≡ true) × InRanges fs c
+
+ranges-of : (fs : List Field) (c : Call) → inRange fs (values c) ≡ true → InRanges fs c
+ranges-of [] c h = tt
+ranges-of (f ∷ fs) c h =
+    let t = both (f .range (valueAt (f .place) (values c))) (inRange fs (values c)) h in
+    (t .0, ranges-of fs c (t .1))
+
+module _ {v : View} {c : Call} {f : Record} (P : Passed v c f) where
+  -- The fields in the brackets of the kind are in range. At a kind written out: `.0` is the first field's, `.1 .0` the second's ..
+  pub ranges : InRanges (brackets (c .kind)) c
+  unfolding outOfRange
+  ranges = ranges-of (brackets (c .kind)) c (not-false _ (P .range))
+
+  -- the kind is one of 15
+  pub kind-in : within 1 15 (c .kind) ≡ true
+  unfolding illFormed
+  kind-in = both (within 1 15 (c .kind)) (unusedZero (brackets (c .kind)) 0 (values c)) (not-false _ (P .form)) .0
+
+  -- fields that the kind does not use are zero
+  pub unused : unusedZero (brackets (c .kind)) 0 (values c) ≡ true
+  unfolding illFormed
+  unused = both (within 1 15 (c .kind)) (unusedZero (brackets (c .kind)) 0 (values c)) (not-false _ (P .form)) .1
+
+  pub in-state : inStateNamed c f ≡ true
+  unfolding wrongState
+  in-state = not-false _ (P .state)
+
+  pub by-party : isPartyNamed c f ≡ true
+  unfolding wrongParty
+  by-party = not-false _ (P .party)

@@ -1,0 +1,32 @@
+-- How the tables of the rules are read.
+-- Assumes nothing.
+use mathlib.Core.Bool.{Bool, true, false, cond}
+use mathlib.Core.List.{List, [], _∷_}
+use Prim.Native.Nat.{ℕ, zero, suc}
+use lib.Dec.{eqb}
+use lib.ListN.{getD, set}
+
+-- n is one of the numbers
+abbrev pub among : ℕ → List ℕ → Bool
+among n [] = false
+among n (k ∷ ks) = cond (eqb n k) true (among n ks)
+
+-- the entry of the first row that names n, else d
+abbrev pub row : {A : Type 0} → ℕ → A → List (List ℕ × A) → A
+row n d [] = d
+row n d (r ∷ rs) = cond (among n (r .0)) (r .1) (row n d rs)
+
+-- "The lowest number that applies is returned, and none where none applies": the first row whose test passes; none is 0
+abbrev pub lowest : List (ℕ × Bool) → ℕ
+lowest [] = 0
+lowest (r ∷ rs) = cond (r .1) (r .0) (lowest rs)
+
+-- "Accounts count from 1, 0 is nobody; receipts and contracts count from 1": entry a of a table, d for nobody
+module _ {A : Type 0} where
+  unfoldable pub nth : A → List A → ℕ → A
+  nth d l zero = d
+  nth d l (suc k) = getD l k d
+
+  unfoldable pub put : List A → ℕ → A → List A
+  put l zero a = l
+  put l (suc k) a = set l k a
