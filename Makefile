@@ -1,13 +1,37 @@
-# make run   the main job on the built-in example
-# make test  the whole gate: every proof, every must-fail edit, every test
-.PHONY: run lib test audit
+# make run      plays a business day through the host program
+# make test     the whole gate: every proof, every must-fail edit, every test
+# make bench    times and instructions per call, beside plain C
+# make install  header, archive, pkg-config file and host program under PREFIX
+PREFIX ?= /usr/local
+DESTDIR ?=
+CFLAGS ?= -O2
+WARNINGS = -std=c99 -Wall -Wextra -Wpedantic -Wconversion
 
-run: lib
-	@echo "The library is proved and built: target/staticlib/libcrz.a, include/crz.h. The host that plays a day is not there yet."
+.PHONY: run lib host install bench test audit
+
+run: host
+	@rm -f target/day.crz target/day.crz.lock target/day.crz.next
+	@target/crz new target/day.crz
+	@target/crz play target/day.crz host/day.txt
+	@echo
+	@target/crz show target/day.crz
 
 # the archive for C, proved
 lib:
 	rt staticlib crz
+
+host: lib
+	$(CC) $(WARNINGS) $(CFLAGS) -o target/crz host/*.c target/staticlib/libcrz.a
+
+install: host
+	install -d $(DESTDIR)$(PREFIX)/include $(DESTDIR)$(PREFIX)/lib/pkgconfig $(DESTDIR)$(PREFIX)/bin
+	install -m 644 include/crz.h $(DESTDIR)$(PREFIX)/include/crz.h
+	install -m 644 target/staticlib/libcrz.a $(DESTDIR)$(PREFIX)/lib/libcrz.a
+	sed 's|@PREFIX@|$(PREFIX)|' host/crz.pc.in >$(DESTDIR)$(PREFIX)/lib/pkgconfig/crz.pc
+	install -m 755 target/crz $(DESTDIR)$(PREFIX)/bin/crz
+
+bench: lib
+	@tools/bench
 
 test:
 	@tools/test

@@ -1,0 +1,170 @@
+/*
+ * Time per call of the library and of the plain C ledger (plain.c), through one interface in one run: for each case the least time of
+ * many rounds, a round being one call on each of a few images in the same state.
+ *
+ * bench               the table of times
+ * bench LEDGER CASE   one round of one case, to count its instructions: LEDGER is crz or plain, CASE a row of the table
+ */
+#define _POSIX_C_SOURCE 200809L
+
+#include <stdio.h>
+#include <stdlib.h>
+#include <string.h>
+#include <time.h>
+
+#include "../host/bytes.h"
+#include "../include/crz.h"
+
+typedef uint32_t ledger(uint8_t *image, size_t image_len, const uint8_t *call, size_t call_len, uint8_t *answer, size_t answer_len);
+ledger plain_call;
+
+enum { IMAGES = 16, ROUNDS = 3000, DAY = 5, DEPOSIT = 5000000, PRICE = 15000, WEIGHT = 41237, CONFIRMED = 1000, PAID = 100 };
+
+struct row {
+    const char *name;
+    int busy;
+    uint8_t kind, account, receipt, contract;
+    uint64_t amount;
+    uint32_t number; /* what is returned */
+};
+
+/* On the busy image lot 3 has a standing bid at PRICE, of contract 1; on the idle one it is not registered. */
+static const struct row rows[] = {
+    {"quote, busy", 1, CRZ_QUOTE, 0, 0, 1, PRICE, CRZ_ACCEPTED},
+    {"quote, idle", 0, CRZ_QUOTE, 0, 0, 1, PRICE, CRZ_ACCEPTED},
+    {"pay in, busy", 1, CRZ_PAY_IN, 1, 0, 0, 100, CRZ_ACCEPTED},
+    {"pay in, idle", 0, CRZ_PAY_IN, 1, 0, 0, 100, CRZ_ACCEPTED},
+    {"limit bid, busy", 1, CRZ_LIMIT_BID, 90, 3, 0, PRICE + 5, CRZ_ACCEPTED},
+    {"morning close, busy", 1, CRZ_MORNING_CLOSE, 0, 0, 0, 0, CRZ_ACCEPTED},
+    {"morning close, idle", 0, CRZ_MORNING_CLOSE, 0, 0, 0, 0, CRZ_ACCEPTED},
+    {"refusal 6, busy", 1, CRZ_LODGE, 1, 1, 0, 0, CRZ_WRONG_STATE},
+    {"refusal 6, idle", 0, CRZ_LODGE, 1, 1, 0, 0, CRZ_WRONG_STATE},
+};
+
+static uint8_t images[IMAGES][CRZ_IMAGE_LENGTH];
+
+static void add_to(uint8_t *at, uint64_t amount)
+{
+    put_number(at, 8, get_number(at, 8) + amount);
+}
+
+/* What a lot in that state holds from its buyer. */
+static uint64_t held(unsigned state, uint64_t full)
+{
+    if (state >= CRZ_STATE_BID_STANDS && state <= CRZ_STATE_LODGED)
+        return DEPOSIT;
+    if (state == CRZ_STATE_SETTLED)
+        return full;
+    return state == CRZ_STATE_FIRST_PAID ? full - full * 80 / 100 - PAID : 0;
+}
+
+static void put_trade(uint8_t *receipt, unsigned state, unsigned buyer)
+{
+    if (state >= CRZ_STATE_BID_STANDS) {
+        receipt[CRZ_RECEIPT_BUYER] = (uint8_t)buyer;
+        put_number(receipt + CRZ_RECEIPT_PRICE, 4, state == CRZ_STATE_PENALTY_DUE ? 0 : PRICE);
+    }
+    if (state >= CRZ_STATE_STRUCK)
+        put_number(receipt + CRZ_RECEIPT_DUE, 2, DAY);
+    if (state == CRZ_STATE_FIRST_PAID) {
+        put_number(receipt + CRZ_RECEIPT_CONFIRMED, 4, CONFIRMED);
+        put_number(receipt + CRZ_RECEIPT_PAID, 4, PAID);
+    }
+}
+
+/* Lots in all eight states by turns, contracts changing every eight lots. */
+static void put_receipt(uint8_t *image, unsigned r)
+{
+    uint8_t *receipt = image + CRZ_IMAGE_RECEIPTS + CRZ_RECEIPT_LENGTH * r;
+    unsigned state = r % 8, seller = 1 + r % 48, buyer = 49 + r % 48;
+    int bought = state == CRZ_STATE_SETTLED || state == CRZ_STATE_FIRST_PAID;
+    uint64_t money = held(state, ((uint64_t)PRICE * WEIGHT + 5) / 10);
+    receipt[CRZ_RECEIPT_OWNER] = (uint8_t)(bought ? buyer : seller);
+    receipt[CRZ_RECEIPT_STATE] = (uint8_t)state;
+    put_number(receipt + CRZ_RECEIPT_WEIGHT, 4, WEIGHT);
+    if (state != CRZ_STATE_IDLE)
+        receipt[CRZ_RECEIPT_SELLER] = (uint8_t)seller;
+    if (state != CRZ_STATE_IDLE && state != CRZ_STATE_PENALTY_DUE) {
+        receipt[CRZ_RECEIPT_CONTRACT] = (uint8_t)(1 + r / 8 % 8);
+        receipt[CRZ_RECEIPT_DAYS] = (uint8_t)(r % 4);
+    }
+    put_trade(receipt, state, buyer);
+    add_to(image + CRZ_IMAGE_ACCOUNTS + CRZ_ACCOUNT_LENGTH * (buyer - 1) + 8, money);
+    add_to(image + CRZ_IMAGE_TOTAL, money);
+}
+
+static void make_image(uint8_t *image, int busy)
+{
+    crz_fresh(image, CRZ_IMAGE_LENGTH);
+    put_number(image + CRZ_IMAGE_DAY, 2, DAY);
+    for (unsigned a = 0; busy && a < CRZ_ACCOUNTS; a++) {
+        add_to(image + CRZ_IMAGE_ACCOUNTS + CRZ_ACCOUNT_LENGTH * a, 1000000000 + a);
+        add_to(image + CRZ_IMAGE_TOTAL, 1000000000 + a);
+    }
+    for (unsigned r = 0; busy && r < CRZ_RECEIPTS; r++)
+        put_receipt(image, r);
+}
+
+static void make_call(uint8_t *call, const struct row *row)
+{
+    memset(call, 0, CRZ_CALL_LENGTH);
+    call[CRZ_CALL_KIND] = row->kind;
+    call[CRZ_CALL_ACCOUNT] = row->account;
+    call[CRZ_CALL_RECEIPT] = row->receipt;
+    call[CRZ_CALL_CONTRACT] = row->contract;
+    put_number(call + CRZ_CALL_AMOUNT, 8, row->amount);
+}
+
+static double now(void)
+{
+    struct timespec t;
+    clock_gettime(CLOCK_MONOTONIC, &t);
+    return (double)t.tv_sec * 1e9 + (double)t.tv_nsec;
+}
+
+/* Nanoseconds per call of one round. */
+static double one_round(ledger *call_it, const struct row *row, const uint8_t *start)
+{
+    static uint8_t call[CRZ_CALL_LENGTH], answer[CRZ_ANSWER_LENGTH];
+    make_call(call, row);
+    for (int i = 0; i < IMAGES; i++)
+        memcpy(images[i], start, CRZ_IMAGE_LENGTH);
+    double before = now();
+    for (int i = 0; i < IMAGES; i++)
+        if (call_it(images[i], CRZ_IMAGE_LENGTH, call, sizeof call, answer, sizeof answer) != row->number) {
+            fprintf(stderr, "%s: returned another number than %u\n", row->name, (unsigned)row->number);
+            exit(1);
+        }
+    return (now() - before) / IMAGES;
+}
+
+/* The two take turns, so that both meet the same moods of the machine. */
+static void print_row(const struct row *row)
+{
+    static uint8_t start[CRZ_IMAGE_LENGTH];
+    double crz = 1e30, plain = 1e30;
+    make_image(start, row->busy);
+    for (int i = 0; i < ROUNDS; i++) {
+        double a = one_round(crz_call, row, start), b = one_round(plain_call, row, start);
+        crz = a < crz ? a : crz;
+        plain = b < plain ? b : plain;
+    }
+    printf("%-22s %10.0f %10.0f %8.1f\n", row->name, crz, plain, crz / plain);
+}
+
+int main(int argc, char **argv)
+{
+    static uint8_t start[CRZ_IMAGE_LENGTH];
+    size_t count = sizeof rows / sizeof rows[0];
+    if (argc == 1)
+        printf("%-22s %10s %10s %8s\n", "ns per call, least", "crz", "plain C", "ratio");
+    for (size_t i = 0; i < count; i++) {
+        if (argc == 1)
+            print_row(&rows[i]);
+        if (argc == 3 && strcmp(argv[2], rows[i].name) == 0) {
+            make_image(start, rows[i].busy);
+            one_round(strcmp(argv[1], "plain") == 0 ? plain_call : crz_call, &rows[i], start);
+        }
+    }
+    return 0;
+}
