@@ -1,0 +1,56 @@
+// What lots hold from accounts, counted from the lots themselves.
+use crate::columns::BASIS;
+use crate::columns::BUYER;
+use crate::columns::Book;
+use crate::columns::PAID;
+use crate::columns::PRICE;
+use crate::columns::ROWS;
+use crate::columns::STATE;
+use crate::columns::WEALTH;
+use crate::columns::WEIGHT;
+use crate::columns::cell;
+use crate::columns::lower;
+use crate::columns::raise;
+use crate::payments::DEPOSIT;
+use crate::payments::full_payment;
+use crate::payments::minus;
+use crate::payments::plus;
+use crate::payments::rest_payment;
+
+pub fn full_of(book: &Book, lot: u64) -> u64 {
+    full_payment(cell(book, PRICE, lot), cell(book, BASIS, lot), cell(book, WEIGHT, lot))
+}
+
+// What a lot holds from its buyer: "deposit in 2 to 4, full in 5, rest - paid in 6".
+pub fn hold(book: &Book, lot: u64) -> u64 {
+    let state = cell(book, STATE, lot);
+    match state {
+        2 => DEPOSIT,
+        3 => DEPOSIT,
+        4 => DEPOSIT,
+        5 => full_of(book, lot),
+        6 => minus(rest_payment(full_of(book, lot)), cell(book, PAID, lot)),
+        _ => 0,
+    }
+}
+
+// An account's frozen money: what all lots hold from it.
+pub fn frozen(book: &Book, account: u64) -> u64 {
+    let mut sum: u64 = 0;
+    for lot in 1..ROWS {
+        if cell(book, BUYER, lot) == account {
+            sum = plus(sum, hold(book, lot));
+        }
+    }
+    sum
+}
+
+pub fn free(book: &Book, account: u64) -> u64 {
+    minus(cell(book, WEALTH, account), frozen(book, account))
+}
+
+// Fen that pass from one account to another.
+pub fn pass(book: &mut Book, from: u64, to: u64, fen: u64) {
+    lower(book, WEALTH, from, fen);
+    raise(book, WEALTH, to, fen);
+}

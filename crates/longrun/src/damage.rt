@@ -1,0 +1,216 @@
+// Damaged images: one field of a valid image gets another value. Often the sums are made to fit again, so that the field alone decides.
+use crate::buffers::Buffer;
+use crate::buffers::field;
+use crate::buffers::put_field;
+use crate::draws::below;
+use crate::draws::between;
+use crate::draws::percent;
+use crate::draws::word;
+use crate::requests::BASIS;
+use crate::requests::BUYER;
+use crate::requests::CONFIRMED;
+use crate::requests::DEPOSIT;
+use crate::requests::DUE;
+use crate::requests::PAID;
+use crate::requests::PENDING;
+use crate::requests::PRICE;
+use crate::requests::Plan;
+use crate::requests::SELLER;
+use crate::requests::STATE;
+use crate::requests::account_at;
+use crate::requests::full_of;
+use crate::requests::number_of;
+use crate::requests::party_of;
+use crate::requests::receipt_at;
+use crate::requests::some_account;
+use crate::wild::edge;
+use ledger::minus;
+use ledger::plus;
+use ledger::product;
+use ledger::rest_payment;
+use ledger::share;
+
+// A field of the image: its first byte and its size.
+struct Spot {
+    at: u64,
+    size: u64,
+}
+
+// ── Another value ───────────────────────────────────────────────────────────────────────────────
+
+fn other_value(seed: &mut u64, old: u64, limit: u64) -> u64 {
+    let draw = below(seed, 8);
+    match draw {
+        0 => plus(old, 1),
+        1 => minus(old, 1),
+        2 => plus(old, product(5, between(seed, 1, 3))),
+        3 => edge(seed),
+        4 => word(seed),
+        _ => limit,
+    }
+}
+
+// Puts another value into the field; what was added, modulo 2^64.
+fn displace(seed: &mut u64, image: &mut Buffer, spot: Spot, limit: u64) -> u64 {
+    let old = field(image, spot.at, spot.size);
+    put_field(image, spot.at, spot.size, other_value(seed, old, limit));
+    if field(image, spot.at, spot.size) == old {
+        put_field(image, spot.at, spot.size, plus(old, 1));
+    }
+    minus(field(image, spot.at, spot.size), old)
+}
+
+// ── Sums that fit again ─────────────────────────────────────────────────────────────────────────
+
+fn hold(image: &Buffer, lot: u64) -> u64 {
+    let state = party_of(image, lot, STATE);
+    let full = full_of(image, lot);
+    match state {
+        2 => DEPOSIT,
+        3 => DEPOSIT,
+        4 => DEPOSIT,
+        5 => full,
+        6 => minus(rest_payment(full), number_of(image, lot, PAID)),
+        _ => 0,
+    }
+}
+
+fn raise_field(image: &mut Buffer, at: u64, by: u64) {
+    let value = plus(field(image, at, 8), by);
+    put_field(image, at, 8, value);
+}
+
+fn clear_frozen(image: &mut Buffer) {
+    for account in 1..97u64 {
+        put_field(image, plus(account_at(account), 8), 8, 0);
+    }
+}
+
+fn freeze(image: &mut Buffer, lot: u64) {
+    let buyer = party_of(image, lot, BUYER);
+    let fen = hold(image, lot);
+    if (1 <= buyer) & (buyer <= 96) {
+        raise_field(image, plus(account_at(buyer), 8), fen);
+    }
+}
+
+fn freeze_all(image: &mut Buffer) {
+    for lot in 1..129u64 {
+        freeze(image, lot);
+    }
+}
+
+fn add_up(image: &mut Buffer) {
+    put_field(image, 24, 8, 0);
+    for account in 1..97u64 {
+        let free = field(image, account_at(account), 8);
+        let frozen = field(image, plus(account_at(account), 8), 8);
+        raise_field(image, 24, plus(free, frozen));
+    }
+}
+
+fn rebook(image: &mut Buffer) {
+    clear_frozen(image);
+    freeze_all(image);
+    add_up(image);
+}
+
+// ── Which field ─────────────────────────────────────────────────────────────────────────────────
+
+// One of a receipt's thirteen fields.
+fn receipt_spot(k: u64) -> Spot {
+    if k < 6 {
+        return Spot { at: k, size: 1 };
+    }
+    if k == 6 {
+        return Spot { at: 6, size: 2 };
+    }
+    Spot {
+        at: minus(product(k, 4), 20),
+        size: 4,
+    }
+}
+
+// A value at the field's own limit or just beyond.
+fn limit_of(seed: &mut u64, image: &Buffer, lot: u64, place: u64) -> u64 {
+    let beyond = below(seed, 2);
+    let full = full_of(image, lot);
+    let confirmed = number_of(image, lot, CONFIRMED);
+    match place {
+        DUE => plus(30003, beyond),
+        BASIS => minus(beyond, number_of(image, lot, PRICE)),
+        PENDING => plus(minus(full, confirmed), beyond),
+        CONFIRMED => minus(plus(full, beyond), plus(number_of(image, lot, PENDING), 1)),
+        PAID => plus(share(rest_payment(full), confirmed, full), beyond),
+        BUYER => party_of(image, lot, SELLER),
+        SELLER => party_of(image, lot, BUYER),
+        _ => below(seed, 9),
+    }
+}
+
+fn damage_receipt(seed: &mut u64, image: &mut Buffer, lot: u64) {
+    let mut spot = receipt_spot(below(seed, 13));
+    let limit = limit_of(seed, image, lot, spot.at);
+    spot.at = plus(spot.at, receipt_at(lot));
+    displace(seed, image, spot, limit);
+    if percent(seed, 60) {
+        rebook(image);
+    }
+}
+
+// A free or a frozen sum. Often the total or another account takes the difference, which a sum modulo 2^64 would not see.
+fn damage_account(seed: &mut u64, image: &mut Buffer, plan: Plan) {
+    let place = plus(account_at(some_account(seed, plan)), product(8, below(seed, 2)));
+    let other = account_at(some_account(seed, plan));
+    let added = displace(seed, image, Spot { at: place, size: 8 }, 1000000000000000);
+    if percent(seed, 40) {
+        raise_field(image, 24, added);
+    }
+    if percent(seed, 30) {
+        raise_field(image, other, minus(0, added));
+    }
+}
+
+// Counts, day, offsets, phase, the three zero bytes, total, and the eight asks.
+fn header_spot(k: u64) -> Spot {
+    match k {
+        0 => Spot { at: 0, size: 2 },
+        1 => Spot { at: 2, size: 2 },
+        2 => Spot { at: 4, size: 2 },
+        3 => Spot { at: 6, size: 2 },
+        4 => Spot { at: 8, size: 4 },
+        5 => Spot { at: 12, size: 4 },
+        6 => Spot { at: 16, size: 4 },
+        7 => Spot { at: 20, size: 1 },
+        8 => Spot { at: 21, size: 1 },
+        9 => Spot { at: 22, size: 1 },
+        10 => Spot { at: 23, size: 1 },
+        11 => Spot { at: 24, size: 8 },
+        _ => Spot {
+            at: plus(1568, product(4, minus(k, 12))),
+            size: 4,
+        },
+    }
+}
+
+fn damage_header(seed: &mut u64, image: &mut Buffer) {
+    let spot = header_spot(below(seed, 20));
+    let price = product(5, between(seed, 1, 40001));
+    displace(seed, image, spot, price);
+}
+
+// Puts one field out of place; the lot whose field it is, or the one that the next call may go to.
+pub fn damage(seed: &mut u64, image: &mut Buffer, plan: Plan) -> u64 {
+    let draw = below(seed, 100);
+    let lot = between(seed, 1, plan.receipts);
+    if draw < 60 {
+        damage_receipt(seed, image, lot);
+        return lot;
+    }
+    if draw < 80 {
+        damage_account(seed, image, plan);
+        return lot;
+    }
+    damage_header(seed, image);
+    lot
+}

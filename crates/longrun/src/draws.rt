@@ -1,0 +1,34 @@
+// Random numbers: xorshift with 64 bits. A seed means one run, on every machine.
+use ledger::plus;
+
+fn next(seed: &mut u64) -> u64 {
+    let mut x = *seed;
+    x = x ^ (x << 13);
+    x = x ^ (x >> 7);
+    x = x ^ (x << 17);
+    *seed = x;
+    x
+}
+
+// Any 64 bits: two steps, of which the second alone would show its neighbours' low bits.
+pub fn word(seed: &mut u64) -> u64 {
+    let high = next(seed);
+    plus(high << 32, next(seed) >> 13)
+}
+
+// 0 to n - 1.
+pub fn below(seed: &mut u64, n: u64) -> u64 {
+    let x = next(seed) >> 11;
+    if n == 0 {
+        return 0;
+    }
+    x % n
+}
+
+pub fn between(seed: &mut u64, low: u64, high: u64) -> u64 {
+    plus(low, below(seed, ledger::minus(plus(high, 1), low)))
+}
+
+pub fn percent(seed: &mut u64, n: u64) -> bool {
+    below(seed, 100) < n
+}

@@ -1,0 +1,63 @@
+// Long runs of calls: the library beside the second ledger. Each has an image and an answer buffer of its own; number, whole image and
+// whole answer are compared after every call. Most calls are sensible ones that carry lots through all states. The others are wild
+// (fields at the edges of their ranges, wrong lengths), or meet a copy of the image with one field out of place.
+//
+// The last line counts the differences.
+mod buffers;
+mod compare;
+mod damage;
+mod draws;
+mod requests;
+mod rows;
+mod runs;
+mod tally;
+mod wild;
+
+use requests::Plan;
+use tally::Tally;
+
+fn plan(seed: u64, calls: u64, receipts: u64, accounts: u64, closes: u64) -> Plan {
+    Plan {
+        seed: seed,
+        calls: calls,
+        receipts: receipts,
+        accounts: accounts,
+        closes: closes,
+        day: 1,
+        full_treasury: false,
+        full_book: false,
+    }
+}
+
+// Few lots and accounts, so that most calls meet lots in the middle of their way.
+fn small_zones(tally: &mut Tally) {
+    runs::run(plan(11400714819323198485, 160, 24, 8, 40), tally);
+    runs::run(plan(15111557264842353923, 14000, 40, 12, 30), tally);
+    runs::run(plan(2685821657736338717, 18000, 8, 3, 60), tally);
+}
+
+// All receipts and accounts in use, so that answers are long.
+fn full_books(tally: &mut Tally) {
+    let mut all = plan(10140107109312335319, 12000, 128, 96, 12);
+    all.full_book = true;
+    runs::run(all, tally);
+    let mut half = plan(6364136223846793005, 12000, 64, 24, 20);
+    half.full_book = true;
+    runs::run(half, tally);
+}
+
+// Money up to the limit, and the last days that a zone has.
+fn last_days(tally: &mut Tally) {
+    let mut late = plan(12605985483714917081, 12000, 24, 6, 40);
+    late.day = 29800;
+    late.full_treasury = true;
+    runs::run(late, tally);
+}
+
+fn main() {
+    let mut tally: Tally = [0; 64];
+    small_zones(&mut tally);
+    full_books(&mut tally);
+    last_days(&mut tally);
+    rows::print_all(&tally);
+}

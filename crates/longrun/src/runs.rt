@@ -1,0 +1,169 @@
+// A run: a zone from its fresh image on.
+use crate::buffers::Buffer;
+use crate::buffers::put_field;
+use crate::buffers::same;
+use crate::compare::FILL;
+use crate::compare::drive;
+use crate::damage::damage;
+use crate::draws::below;
+use crate::draws::percent;
+use crate::requests::MOST_AMOUNT;
+use crate::requests::Plan;
+use crate::requests::Request;
+use crate::requests::close_phase;
+use crate::requests::request;
+use crate::requests::sensible;
+use crate::requests::step_lot;
+use crate::tally::DAMAGED;
+use crate::tally::DIFFERENCES;
+use crate::tally::NUMBERS;
+use crate::tally::STILL_VALID;
+use crate::tally::Tally;
+use crate::tally::add;
+use crate::tally::counted;
+use crate::wild::wild;
+use ledger::minus;
+use ledger::plus;
+use ledger::product;
+
+// ── Damaged images ──────────────────────────────────────────────────────────────────────────────
+
+fn request_on(seed: &mut u64, plan: Plan, image: &Buffer, lot: u64) -> Request {
+    if percent(seed, 30) {
+        return close_phase(seed, image);
+    }
+    if percent(seed, 70) {
+        return step_lot(seed, plan, image, lot);
+    }
+    sensible(seed, plan, image)
+}
+
+// Both sides judge a damaged copy, which is counted apart; the run goes on with the image as it was.
+fn judge_damaged(seed: &mut u64, plan: Plan, image: &Buffer, tally: &mut Tally) {
+    let mut copy: Buffer = *image;
+    let lot = damage(seed, &mut copy, plan);
+    let mut second: Buffer = copy;
+    let mut apart: Tally = [0; 64];
+    let q = request_on(seed, plan, &copy, lot);
+    if drive(q, &mut copy, &mut second, &mut apart) == 2 {
+        add(tally, DAMAGED, 1);
+    } else {
+        add(tally, STILL_VALID, 1);
+    }
+    add(tally, DIFFERENCES, counted(&apart, DIFFERENCES));
+}
+
+// ── Calls ───────────────────────────────────────────────────────────────────────────────────────
+
+fn turn(seed: &mut u64, plan: Plan, image: &mut Buffer, second: &mut Buffer, tally: &mut Tally) {
+    let draw = below(seed, 100);
+    if draw < 12 {
+        judge_damaged(seed, plan, image, tally);
+        return;
+    }
+    if draw < 24 {
+        let odd = wild(seed, plan, image);
+        drive(odd, image, second, tally);
+        return;
+    }
+    let q = sensible(seed, plan, image);
+    drive(q, image, second, tally);
+}
+
+fn make(q: Request, image: &mut Buffer, second: &mut Buffer, tally: &mut Tally) {
+    drive(q, image, second, tally);
+}
+
+// Pay-ins up to 10^15 fen, and one that would pass it.
+fn fill_treasury(plan: Plan, image: &mut Buffer, second: &mut Buffer, tally: &mut Tally) {
+    for k in 0..1001u64 {
+        let account = plus(1, k % 6);
+        make(request(1, account, 0, MOST_AMOUNT), image, second, tally);
+    }
+}
+
+fn register_all(image: &mut Buffer, second: &mut Buffer, tally: &mut Tally) {
+    for lot in 1..129u64 {
+        let mut q = request(3, 2, lot, 0);
+        q.weight = plus(40000, lot);
+        make(q, image, second, tally);
+    }
+}
+
+fn pay_all(image: &mut Buffer, second: &mut Buffer, tally: &mut Tally) {
+    for account in 1..97u64 {
+        let amount = plus(2000000000, product(account, 400000000));
+        make(request(1, account, 0, amount), image, second, tally);
+    }
+}
+
+// Every receipt is listed and gets a bid that stands.
+fn bid_all(plan: Plan, image: &mut Buffer, second: &mut Buffer, tally: &mut Tally) {
+    for lot in 1..129u64 {
+        let mut q = request(4, 2, lot, 0);
+        q.contract = 1;
+        make(q, image, second, tally);
+        let buyer = plus(3, lot % 22);
+        let price = plus(15000, product(5, lot % 3));
+        make(request(6, buyer, lot, price), image, second, tally);
+    }
+}
+
+// Three lots of four are lodged in time.
+fn lodge_most(image: &mut Buffer, second: &mut Buffer, tally: &mut Tally) {
+    for lot in 1..129u64 {
+        if lot % 4 != 0 {
+            make(request(10, 2, lot, 0), image, second, tally);
+        }
+    }
+}
+
+// All 128 lots through a day close, and then through a quote and a morning close, so that answers are full.
+fn fill_book(plan: Plan, image: &mut Buffer, second: &mut Buffer, tally: &mut Tally) {
+    register_all(image, second, tally);
+    pay_all(image, second, tally);
+    bid_all(plan, image, second, tally);
+    make(request(11, 0, 0, 0), image, second, tally);
+    make(request(15, 0, 0, 0), image, second, tally);
+    bid_all(plan, image, second, tally);
+    let mut quote = request(9, 0, 0, 15000);
+    quote.contract = 1;
+    make(quote, image, second, tally);
+    lodge_most(image, second, tally);
+    make(request(11, 0, 0, 0), image, second, tally);
+    make(request(15, 0, 0, 0), image, second, tally);
+}
+
+// ── A run ───────────────────────────────────────────────────────────────────────────────────────
+
+// Both sides' fresh images; a later day is written into both.
+fn start(plan: Plan, image: &mut Buffer, second: &mut Buffer, tally: &mut Tally) {
+    crz::crz_fresh(&mut image[..5696]);
+    ledger::fresh(&mut second[..5696]);
+    if !same(image, second) {
+        add(tally, DIFFERENCES, 1);
+    }
+    put_field(image, 6, 2, plan.day);
+    put_field(second, 6, 2, plan.day);
+}
+
+fn turns(plan: Plan, image: &mut Buffer, second: &mut Buffer, tally: &mut Tally) {
+    let mut seed = plan.seed;
+    let calls = plan.calls;
+    for k in 0..calls {
+        turn(&mut seed, plan, image, second, tally);
+    }
+}
+
+pub fn run(plan: Plan, tally: &mut Tally) {
+    let mut image: Buffer = [FILL; 5760];
+    let mut second: Buffer = [FILL; 5760];
+    start(plan, &mut image, &mut second, tally);
+    if plan.full_treasury {
+        fill_treasury(plan, &mut image, &mut second, tally);
+    }
+    if plan.full_book {
+        fill_book(plan, &mut image, &mut second, tally);
+    }
+    turns(plan, &mut image, &mut second, tally);
+}
