@@ -5,38 +5,59 @@ use crate::payments::plus;
 pub type Book = [u64; 2580];
 
 pub const COLUMNS: u64 = 20;
+
 pub const ROWS: u64 = 129;
 
 // The receipt's fields, in the order that they have in the image. Basis is kept as its 32 bits, unsigned.
 pub const OWNER: u64 = 0;
+
 pub const STATE: u64 = 1;
+
 pub const SELLER: u64 = 2;
+
 pub const BUYER: u64 = 3;
+
 pub const CONTRACT: u64 = 4;
+
 pub const DAYS: u64 = 5;
+
 pub const DUE: u64 = 6;
+
 pub const WEIGHT: u64 = 7;
+
 pub const BASIS: u64 = 8;
+
 pub const PRICE: u64 = 9;
+
 pub const PENDING: u64 = 10;
+
 pub const CONFIRMED: u64 = 11;
+
 pub const PAID: u64 = 12;
+
 pub const RECEIPT_COLUMNS: u64 = 13;
 
 // An account's free and frozen money together.
 pub const WEALTH: u64 = 13;
+
 pub const ASK: u64 = 14;
 
 // The zone's own numbers, with these rows.
 pub const ZONE: u64 = 15;
+
 pub const DAY: u64 = 0;
+
 pub const PHASE: u64 = 1;
+
 pub const TOTAL: u64 = 2;
 
 // What the call's answer lists about a lot; outcome 0 where it lists nothing.
 pub const OUTCOME: u64 = 16;
+
 pub const FROM: u64 = 17;
+
 pub const TO: u64 = 18;
+
 pub const NUMBER: u64 = 19;
 
 pub fn cell(book: &Book, column: u64, row: u64) -> u64 {

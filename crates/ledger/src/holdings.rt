@@ -18,7 +18,11 @@ use crate::payments::plus;
 use crate::payments::rest_payment;
 
 pub fn full_of(book: &Book, lot: u64) -> u64 {
-    full_payment(cell(book, PRICE, lot), cell(book, BASIS, lot), cell(book, WEIGHT, lot))
+    full_payment(
+        cell(book, PRICE, lot),
+        cell(book, BASIS, lot),
+        cell(book, WEIGHT, lot),
+    )
 }
 
 // What a lot holds from its buyer: "deposit in 2 to 4, full in 5, rest - paid in 6".

@@ -46,6 +46,7 @@ use crate::records::within;
 
 // Accounts and contracts end before these rows.
 const ACCOUNTS_END: u64 = 97;
+
 const CONTRACTS_END: u64 = 9;
 
 // ── Places in the image ─────────────────────────────────────────────────────────────────────────
@@ -82,7 +83,12 @@ fn size_of(column: u64) -> u64 {
 
 fn read_receipt(book: &mut Book, image: &[u8], lot: u64) {
     for column in 0..RECEIPT_COLUMNS {
-        set_cell(book, column, lot, field(image, receipt_at(lot, column), size_of(column)));
+        set_cell(
+            book,
+            column,
+            lot,
+            field(image, receipt_at(lot, column), size_of(column)),
+        );
     }
 }
 
@@ -102,7 +108,12 @@ fn frozen_in(image: &[u8], account: u64) -> u64 {
 
 fn read_accounts(book: &mut Book, image: &[u8]) {
     for account in 1..ACCOUNTS_END {
-        set_cell(book, WEALTH, account, plus(free_in(image, account), frozen_in(image, account)));
+        set_cell(
+            book,
+            WEALTH,
+            account,
+            plus(free_in(image, account), frozen_in(image, account)),
+        );
     }
 }
 
@@ -125,8 +136,12 @@ pub fn read_image(book: &mut Book, image: &[u8]) {
 
 // Counts, offsets, day, phase and the three zero bytes.
 fn header_ok(image: &[u8]) -> bool {
-    let counts = (field(image, 0, 2) == 96) & (field(image, 2, 2) == 128) & (field(image, 4, 2) == 8);
-    let offsets = (field(image, 8, 4) == 32) & (field(image, 12, 4) == 1568) & (field(image, 16, 4) == 1600);
+    let counts = (field(image, 0, 2) == 96)
+        & (field(image, 2, 2) == 128)
+        & (field(image, 4, 2) == 8);
+    let offsets = (field(image, 8, 4) == 32)
+        & (field(image, 12, 4) == 1568)
+        & (field(image, 16, 4) == 1600);
     let day = within(field(image, 6, 2), 1, 30000);
     counts & offsets & day & (field(image, 20, 1) <= 1) & (field(image, 21, 3) == 0)
 }
@@ -232,7 +247,11 @@ fn invoices_ok(book: &Book, lot: u64) -> bool {
 fn lots_ok(book: &Book) -> bool {
     let mut ok = true;
     for lot in 1..ROWS {
-        ok = ok & fields_ok(book, lot) & parties_ok(book, lot) & price_ok(book, lot) & invoices_ok(book, lot);
+        ok = ok
+            & fields_ok(book, lot)
+            & parties_ok(book, lot)
+            & price_ok(book, lot)
+            & invoices_ok(book, lot);
     }
     ok
 }
@@ -311,7 +330,12 @@ fn write_asks(book: &Book, page: &mut Page) {
 
 fn write_receipt(book: &Book, page: &mut Page, lot: u64) {
     for column in 0..RECEIPT_COLUMNS {
-        put_field(page, receipt_at(lot, column), size_of(column), cell(book, column, lot));
+        put_field(
+            page,
+            receipt_at(lot, column),
+            size_of(column),
+            cell(book, column, lot),
+        );
     }
 }
 

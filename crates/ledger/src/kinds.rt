@@ -180,7 +180,12 @@ fn confirm(book: &mut Book, c: Call) {
     let lot = c.receipt;
     let full = full_of(book, lot);
     let pending = cell(book, PENDING, lot);
-    let fen = part_payment(full, cell(book, CONFIRMED, lot), cell(book, PAID, lot), pending);
+    let fen = part_payment(
+        full,
+        cell(book, CONFIRMED, lot),
+        cell(book, PAID, lot),
+        pending,
+    );
     pay(book, lot, 11, fen);
     raise(book, PAID, lot, fen);
     raise(book, CONFIRMED, lot, pending);

@@ -58,7 +58,9 @@ fn stray(used: bool, value: u64) -> bool {
 fn malformed(c: Call) -> bool {
     let kind = c.kind;
     let parties = stray(uses_account(kind), c.account) | stray(uses_receipt(kind), c.receipt);
-    let terms = stray(uses_contract(kind), c.contract) | stray(kind == 4, c.days) | stray(kind == 4, c.basis);
+    let terms = stray(uses_contract(kind), c.contract)
+        | stray(kind == 4, c.days)
+        | stray(kind == 4, c.basis);
     let quantities = stray(uses_amount(kind), c.amount) | stray(kind == 3, c.weight);
     !within(kind, 1, 15) | parties | terms | quantities | (c.spare != 0)
 }
@@ -76,9 +78,12 @@ fn amount_ok(kind: u64, amount: u64) -> bool {
 
 fn out_of_range(c: Call) -> bool {
     let kind = c.kind;
-    let parties = (uses_account(kind) & !is_account(c.account)) | (uses_receipt(kind) & !within(c.receipt, 1, 128));
-    let terms = (uses_contract(kind) & !is_contract(c.contract)) | ((kind == 4) & ((c.days > 3) | !is_basis(c.basis)));
-    let quantities = (uses_amount(kind) & !amount_ok(kind, c.amount)) | ((kind == 3) & !is_weight(c.weight));
+    let parties = (uses_account(kind) & !is_account(c.account))
+        | (uses_receipt(kind) & !within(c.receipt, 1, 128));
+    let terms = (uses_contract(kind) & !is_contract(c.contract))
+        | ((kind == 4) & ((c.days > 3) | !is_basis(c.basis)));
+    let quantities = (uses_amount(kind) & !amount_ok(kind, c.amount))
+        | ((kind == 3) & !is_weight(c.weight));
     parties | terms | quantities
 }
 

@@ -1,7 +1,31 @@
 // Buffers of one size for image, call record and answer, with bytes to spare for lengths that are too long.
+ghost use mathlib.Core.Path.{_≡_};
+ghost use lib.ListN.{length};
 use ledger::plus;
 
 pub type Buffer = [u8; 5760];
+
+// What answer buffers are filled with before a call.
+pub const FILL: u8 = 195;
+
+// The same buffer; the promise of its length is what lending it as a slice needs.
+pub fn sized(buffer: Buffer) -> Buffer
+    ensures { λ r. ⌜ 5760 ≡ length r ⌝ }
+{
+    buffer
+}
+
+pub fn filled() -> Buffer
+    ensures { λ r. ⌜ 5760 ≡ length r ⌝ }
+{
+    [FILL; 5760]
+}
+
+pub fn zeros() -> Buffer
+    ensures { λ r. ⌜ 5760 ≡ length r ⌝ }
+{
+    [0; 5760]
+}
 
 fn wide(x: u8) -> u64 {
     x as u64
@@ -49,11 +73,11 @@ pub fn same(a: &Buffer, b: &Buffer) -> bool {
     same
 }
 
-// Whether all bytes from `start` on are `fill`.
-pub fn is_filled(buffer: &Buffer, start: u64, fill: u64) -> bool {
+// Whether all bytes from `start` on are as `filled` leaves them.
+pub fn is_filled(buffer: &Buffer, start: u64) -> bool {
     let mut same = true;
     for at in start..5760 {
-        same = same & (byte(buffer, at) == fill);
+        same = same & (byte(buffer, at) == wide(FILL));
     }
     same
 }

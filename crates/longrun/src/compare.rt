@@ -1,9 +1,14 @@
 // One call on both sides.
+ghost use mathlib.Core.Path.{_≡_};
+ghost use lib.ListN.{length};
 use crate::buffers::Buffer;
 use crate::buffers::field;
+use crate::buffers::filled;
 use crate::buffers::is_filled;
 use crate::buffers::put_field;
 use crate::buffers::same;
+use crate::buffers::sized;
+use crate::buffers::zeros;
 use crate::requests::Request;
 use crate::tally::CALLS;
 use crate::tally::DIFFERENCES;
@@ -18,59 +23,77 @@ use crate::tally::set;
 use ledger::plus;
 use ledger::product;
 
-// What the answer buffers are filled with before a call.
-pub const FILL: u8 = 195;
-
 // ── The call on each side ───────────────────────────────────────────────────────────────────────
 
 // "kind, account, receipt, contract, D, three zero bytes, amount or price u64, basis i32, weight u32". Bytes past these are zero.
-fn write_record(q: Request, record: &mut Buffer) {
-    put_field(record, 0, 1, q.kind);
-    put_field(record, 1, 1, q.account);
-    put_field(record, 2, 1, q.receipt);
-    put_field(record, 3, 1, q.contract);
-    put_field(record, 4, 1, q.days);
-    put_field(record, 5, 3, q.spare);
-    put_field(record, 8, 8, q.amount);
-    put_field(record, 16, 4, q.basis);
-    put_field(record, 20, 4, q.weight);
+fn record_of(q: Request) -> Buffer
+    ensures { λ r. ⌜ 5760 ≡ length r ⌝ }
+{
+    let mut record: Buffer = zeros();
+    put_field(&mut record, 0, 1, q.kind);
+    put_field(&mut record, 1, 1, q.account);
+    put_field(&mut record, 2, 1, q.receipt);
+    put_field(&mut record, 3, 1, q.contract);
+    put_field(&mut record, 4, 1, q.days);
+    put_field(&mut record, 5, 3, q.spare);
+    put_field(&mut record, 8, 8, q.amount);
+    put_field(&mut record, 16, 4, q.basis);
+    put_field(&mut record, 20, 4, q.weight);
+    sized(record)
 }
 
 fn wide(x: u32) -> u64 {
     x as u64
 }
 
-// The library's number; 99, which is none, where a length is not within the buffer.
-fn call_library(q: Request, image: &mut Buffer, record: &Buffer, answer: &mut Buffer) -> u64 {
-    let image_length = q.image_length as usize;
-    let call_length = q.call_length as usize;
-    let answer_length = q.answer_length as usize;
-    if image_length > 5760 {
+// The library's number for buffers of these lengths; 99, which is none, where a buffer has not so many bytes.
+fn call_library(
+    image: &mut [u8],
+    image_length: usize,
+    record: &[u8],
+    call_length: usize,
+    answer: &mut [u8],
+    answer_length: usize,
+) -> u64 {
+    if image_length > image.len() {
         return 99;
     }
-    if call_length > 88 {
+    if call_length > record.len() {
         return 99;
     }
-    if answer_length > 1104 {
+    if answer_length > answer.len() {
         return 99;
     }
-    wide(crz::crz_call(&mut image[..image_length], &record[..call_length], &mut answer[..answer_length]))
+    wide(crz::crz_call(
+        &mut image[..image_length],
+        &record[..call_length],
+        &mut answer[..answer_length],
+    ))
 }
 
-fn call_ledger(q: Request, image: &mut Buffer, record: &Buffer, answer: &mut Buffer) -> u64 {
-    let image_length = q.image_length as usize;
-    let call_length = q.call_length as usize;
-    let answer_length = q.answer_length as usize;
-    if image_length > 5760 {
+// The same for the ledger, with 98.
+fn call_ledger(
+    image: &mut [u8],
+    image_length: usize,
+    record: &[u8],
+    call_length: usize,
+    answer: &mut [u8],
+    answer_length: usize,
+) -> u64 {
+    if image_length > image.len() {
         return 98;
     }
-    if call_length > 88 {
+    if call_length > record.len() {
         return 98;
     }
-    if answer_length > 1104 {
+    if answer_length > answer.len() {
         return 98;
     }
-    ledger::call(&mut image[..image_length], &record[..call_length], &mut answer[..answer_length])
+    ledger::call(
+        &mut image[..image_length],
+        &record[..call_length],
+        &mut answer[..answer_length],
+    )
 }
 
 // ── What is left alone ──────────────────────────────────────────────────────────────────────────
@@ -79,12 +102,12 @@ fn call_ledger(q: Request, image: &mut Buffer, record: &Buffer, answer: &mut Buf
 // it at number 1.
 fn left_alone(number: u64, before: &Buffer, image: &Buffer, answer: &Buffer) -> bool {
     if number == 0 {
-        return is_filled(answer, 1040, 195);
+        return is_filled(answer, 1040);
     }
     if number == 1 {
-        return is_filled(answer, 0, 195) & same(before, image);
+        return is_filled(answer, 0) & same(before, image);
     }
-    is_filled(answer, 1040, 195) & same(before, image)
+    is_filled(answer, 1040) & same(before, image)
 }
 
 // ── What the answer reached ─────────────────────────────────────────────────────────────────────
@@ -130,17 +153,36 @@ fn show(tally: &mut Tally, kind: u64, of_library: u64, of_ledger: u64) {
 // Makes the call on both sides and compares; the library's number. After a difference the ledger goes on with the library's image.
 pub fn drive(q: Request, image: &mut Buffer, second: &mut Buffer, tally: &mut Tally) -> u64 {
     let before: Buffer = *image;
-    let mut record: Buffer = [0; 5760];
-    let mut answer: Buffer = [FILL; 5760];
-    let mut other: Buffer = [FILL; 5760];
-    write_record(q, &mut record);
-    let number = call_library(q, image, &record, &mut answer);
-    let of_ledger = call_ledger(q, second, &record, &mut other);
+    let mut ours: Buffer = sized(*image);
+    let mut theirs: Buffer = sized(*second);
+    let record: Buffer = record_of(q);
+    let mut answer: Buffer = filled();
+    let mut other: Buffer = filled();
+    let image_length = q.image_length as usize;
+    let call_length = q.call_length as usize;
+    let answer_length = q.answer_length as usize;
+    let number = call_library(
+        &mut ours,
+        image_length,
+        &record,
+        call_length,
+        &mut answer,
+        answer_length,
+    );
+    let of_ledger = call_ledger(
+        &mut theirs,
+        image_length,
+        &record,
+        call_length,
+        &mut other,
+        answer_length,
+    );
     count(q, number, &answer, tally);
-    let agree = (number == of_ledger) & same(image, second) & same(&answer, &other);
-    if !(agree & left_alone(number, &before, image, &answer)) {
+    let agree = (number == of_ledger) & same(&ours, &theirs) & same(&answer, &other);
+    if !(agree & left_alone(number, &before, &ours, &answer)) {
         show(tally, q.kind, number, of_ledger);
-        *second = *image;
     }
+    *image = ours;
+    *second = ours;
     number
 }

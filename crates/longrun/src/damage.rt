@@ -160,7 +160,10 @@ fn damage_receipt(seed: &mut u64, image: &mut Buffer, lot: u64) {
 
 // A free or a frozen sum. Often the total or another account takes the difference, which a sum modulo 2^64 would not see.
 fn damage_account(seed: &mut u64, image: &mut Buffer, plan: Plan) {
-    let place = plus(account_at(some_account(seed, plan)), product(8, below(seed, 2)));
+    let place = plus(
+        account_at(some_account(seed, plan)),
+        product(8, below(seed, 2)),
+    );
     let other = account_at(some_account(seed, plan));
     let added = displace(seed, image, Spot { at: place, size: 8 }, 1000000000000000);
     if percent(seed, 40) {

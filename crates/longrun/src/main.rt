@@ -31,7 +31,7 @@ fn plan(seed: u64, calls: u64, receipts: u64, accounts: u64, closes: u64) -> Pla
 
 // Few lots and accounts, so that most calls meet lots in the middle of their way.
 fn small_zones(tally: &mut Tally) {
-    runs::run(plan(11400714819323198485, 160, 24, 8, 40), tally);
+    runs::run(plan(11400714819323198485, 16000, 24, 8, 40), tally);
     runs::run(plan(15111557264842353923, 14000, 40, 12, 30), tally);
     runs::run(plan(2685821657736338717, 18000, 8, 3, 60), tally);
 }

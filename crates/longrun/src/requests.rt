@@ -10,6 +10,7 @@ use ledger::plus;
 use ledger::product;
 
 pub const DEPOSIT: u64 = 5000000;
+
 pub const MOST_AMOUNT: u64 = 1000000000000;
 
 // Prices of this contract are low, so that full payments lie below the deposit.
@@ -17,16 +18,27 @@ pub const CHEAP_CONTRACT: u64 = 8;
 
 // Places of a receipt's fields.
 pub const OWNER: u64 = 0;
+
 pub const STATE: u64 = 1;
+
 pub const SELLER: u64 = 2;
+
 pub const BUYER: u64 = 3;
+
 pub const CONTRACT: u64 = 4;
+
 pub const DUE: u64 = 6;
+
 pub const WEIGHT: u64 = 8;
+
 pub const BASIS: u64 = 12;
+
 pub const PRICE: u64 = 16;
+
 pub const PENDING: u64 = 20;
+
 pub const CONFIRMED: u64 = 24;
+
 pub const PAID: u64 = 28;
 
 // One run; closes are per thousand calls.
@@ -57,7 +69,7 @@ pub struct Request {
     pub answer_length: u64,
 }
 
-pub fn request(kind: u64, account: u64, receipt: u64, amount: u64) -> Request {
+pub fn ask_for(kind: u64, account: u64, receipt: u64, amount: u64) -> Request {
     Request {
         kind: kind,
         account: account,
@@ -93,7 +105,11 @@ pub fn number_of(image: &Buffer, lot: u64, place: u64) -> u64 {
 }
 
 pub fn full_of(image: &Buffer, lot: u64) -> u64 {
-    full_payment(number_of(image, lot, PRICE), number_of(image, lot, BASIS), number_of(image, lot, WEIGHT))
+    full_payment(
+        number_of(image, lot, PRICE),
+        number_of(image, lot, BASIS),
+        number_of(image, lot, WEIGHT),
+    )
 }
 
 fn free_of(image: &Buffer, account: u64) -> u64 {
@@ -126,7 +142,10 @@ fn near_price(seed: &mut u64, contract: u64) -> u64 {
     if contract == CHEAP_CONTRACT {
         return product(5, between(seed, 1, 10));
     }
-    plus(plus(14000, product(contract, 500)), product(5, below(seed, 20)))
+    plus(
+        plus(14000, product(contract, 500)),
+        product(5, below(seed, 20)),
+    )
 }
 
 // The edges of the range of basis and the numbers beside them.
@@ -166,12 +185,12 @@ fn some_weight(seed: &mut u64) -> u64 {
 // Every third account is rich, the others often lack the full payment. A full treasury takes large sums, to meet its limit.
 fn pay_in(seed: &mut u64, plan: Plan, account: u64) -> Request {
     if plan.full_treasury & percent(seed, 90) {
-        return request(1, account, 0, MOST_AMOUNT);
+        return ask_for(1, account, 0, MOST_AMOUNT);
     }
     if account % 3 == 1 {
-        return request(1, account, 0, between(seed, 1, 2000000000));
+        return ask_for(1, account, 0, between(seed, 1, 2000000000));
     }
-    request(1, account, 0, between(seed, 1, 40000000))
+    ask_for(1, account, 0, between(seed, 1, 40000000))
 }
 
 // All of the free money, or a part of it, or up to two fen more.
@@ -183,7 +202,7 @@ fn take_out(seed: &mut u64, image: &Buffer, account: u64) -> Request {
     if (amount == 0) | (amount > MOST_AMOUNT) {
         amount = MOST_AMOUNT;
     }
-    request(2, account, 0, amount)
+    ask_for(2, account, 0, amount)
 }
 
 // Brings the free money that the next close tests to its limit, or one fen beside it.
@@ -191,22 +210,22 @@ fn meet_limit(seed: &mut u64, image: &Buffer, account: u64, limit: u64) -> Reque
     let wanted = minus(plus(limit, below(seed, 3)), 1);
     let free = free_of(image, account);
     if free < wanted {
-        return request(1, account, 0, minus(wanted, free));
+        return ask_for(1, account, 0, minus(wanted, free));
     }
-    request(2, account, 0, minus(free, wanted))
+    ask_for(2, account, 0, minus(free, wanted))
 }
 
 // ── Receipts and listings ───────────────────────────────────────────────────────────────────────
 
 fn register(seed: &mut u64, plan: Plan, lot: u64) -> Request {
-    let mut q = request(3, some_account(seed, plan), lot, 0);
+    let mut q = ask_for(3, some_account(seed, plan), lot, 0);
     q.weight = some_weight(seed);
     q
 }
 
 fn list(seed: &mut u64, plan: Plan, image: &Buffer, lot: u64) -> Request {
     let owner = party_of(image, lot, OWNER);
-    let mut q = request(4, party(seed, plan, owner), lot, 0);
+    let mut q = ask_for(4, party(seed, plan, owner), lot, 0);
     let contract = some_contract(seed);
     q.contract = contract;
     q.days = below(seed, 4);
@@ -248,22 +267,22 @@ fn bid_or_withdraw(seed: &mut u64, plan: Plan, image: &Buffer, lot: u64) -> Requ
     let draw = below(seed, 100);
     if draw < 65 {
         let account = bidder(seed, plan, buyer);
-        return request(6, account, lot, bid_price(seed, image, lot));
+        return ask_for(6, account, lot, bid_price(seed, image, lot));
     }
     if draw < 80 {
-        return request(7, bidder(seed, plan, buyer), lot, 0);
+        return ask_for(7, bidder(seed, plan, buyer), lot, 0);
     }
     if draw < 90 {
-        return request(8, party(seed, plan, buyer), lot, 0);
+        return ask_for(8, party(seed, plan, buyer), lot, 0);
     }
-    request(5, party(seed, plan, seller), lot, 0)
+    ask_for(5, party(seed, plan, seller), lot, 0)
 }
 
 // ── Delivery and payment ────────────────────────────────────────────────────────────────────────
 
 fn lodge_or_bid(seed: &mut u64, plan: Plan, image: &Buffer, lot: u64) -> Request {
     if percent(seed, 40) {
-        return request(10, party(seed, plan, party_of(image, lot, SELLER)), lot, 0);
+        return ask_for(10, party(seed, plan, party_of(image, lot, SELLER)), lot, 0);
     }
     bid_or_withdraw(seed, plan, image, lot)
 }
@@ -294,11 +313,11 @@ fn confirms(seed: &mut u64, pending: bool) -> bool {
 fn invoice_or_confirm(seed: &mut u64, plan: Plan, image: &Buffer, lot: u64) -> Request {
     let pending = number_of(image, lot, PENDING) != 0;
     if confirms(seed, pending) {
-        return request(14, party(seed, plan, party_of(image, lot, BUYER)), lot, 0);
+        return ask_for(14, party(seed, plan, party_of(image, lot, BUYER)), lot, 0);
     }
     let left = minus(full_of(image, lot), number_of(image, lot, CONFIRMED));
     let account = party(seed, plan, party_of(image, lot, SELLER));
-    request(13, account, lot, invoice_amount(seed, left))
+    ask_for(13, account, lot, invoice_amount(seed, left))
 }
 
 // A lodged lot waits for the morning close, which asks for the buyer's money.
@@ -306,7 +325,8 @@ fn await_close(seed: &mut u64, plan: Plan, image: &Buffer, lot: u64) -> Request 
     let buyer = party_of(image, lot, BUYER);
     let full = full_of(image, lot);
     if percent(seed, 40) {
-        return pay_in(seed, plan, party(seed, plan, buyer));
+        let account = party(seed, plan, buyer);
+        return pay_in(seed, plan, account);
     }
     if full > DEPOSIT {
         return meet_limit(seed, image, buyer, minus(full, DEPOSIT));
@@ -317,7 +337,8 @@ fn await_close(seed: &mut u64, plan: Plan, image: &Buffer, lot: u64) -> Request 
 fn await_penalty(seed: &mut u64, plan: Plan, image: &Buffer, lot: u64) -> Request {
     let seller = party_of(image, lot, SELLER);
     if percent(seed, 40) {
-        return pay_in(seed, plan, party(seed, plan, seller));
+        let account = party(seed, plan, seller);
+        return pay_in(seed, plan, account);
     }
     meet_limit(seed, image, seller, DEPOSIT)
 }
@@ -331,7 +352,7 @@ pub fn step_lot(seed: &mut u64, plan: Plan, image: &Buffer, lot: u64) -> Request
         2 => bid_or_withdraw(seed, plan, image, lot),
         3 => lodge_or_bid(seed, plan, image, lot),
         4 => await_close(seed, plan, image, lot),
-        5 => request(12, party(seed, plan, party_of(image, lot, SELLER)), lot, 0),
+        5 => ask_for(12, party(seed, plan, party_of(image, lot, SELLER)), lot, 0),
         6 => invoice_or_confirm(seed, plan, image, lot),
         _ => await_penalty(seed, plan, image, lot),
     }
@@ -343,14 +364,14 @@ pub fn step_lot(seed: &mut u64, plan: Plan, image: &Buffer, lot: u64) -> Request
 pub fn close_phase(seed: &mut u64, image: &Buffer) -> Request {
     let morning = field(image, 20, 1) == 0;
     if morning != percent(seed, 5) {
-        return request(11, 0, 0, 0);
+        return ask_for(11, 0, 0, 0);
     }
-    request(15, 0, 0, 0)
+    ask_for(15, 0, 0, 0)
 }
 
 fn quote(seed: &mut u64) -> Request {
     let contract = some_contract(seed);
-    let mut q = request(9, 0, 0, 0);
+    let mut q = ask_for(9, 0, 0, 0);
     q.contract = contract;
     if percent(seed, 70) {
         q.amount = near_price(seed, contract);
@@ -360,17 +381,19 @@ fn quote(seed: &mut u64) -> Request {
 
 pub fn sensible(seed: &mut u64, plan: Plan, image: &Buffer) -> Request {
     let draw = below(seed, 1000);
+    let account = some_account(seed, plan);
+    let lot = between(seed, 1, plan.receipts);
     if draw < 50 {
         return quote(seed);
     }
     if draw < 100 {
-        return pay_in(seed, plan, some_account(seed, plan));
+        return pay_in(seed, plan, account);
     }
     if draw < 130 {
-        return take_out(seed, image, some_account(seed, plan));
+        return take_out(seed, image, account);
     }
     if draw < plus(130, plan.closes) {
         return close_phase(seed, image);
     }
-    step_lot(seed, plan, image, between(seed, 1, plan.receipts))
+    step_lot(seed, plan, image, lot)
 }

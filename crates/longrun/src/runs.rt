@@ -1,8 +1,8 @@
 // A run: a zone from its fresh image on.
 use crate::buffers::Buffer;
+use crate::buffers::filled;
 use crate::buffers::put_field;
 use crate::buffers::same;
-use crate::compare::FILL;
 use crate::compare::drive;
 use crate::damage::damage;
 use crate::draws::below;
@@ -10,8 +10,8 @@ use crate::draws::percent;
 use crate::requests::MOST_AMOUNT;
 use crate::requests::Plan;
 use crate::requests::Request;
+use crate::requests::ask_for;
 use crate::requests::close_phase;
-use crate::requests::request;
 use crate::requests::sensible;
 use crate::requests::step_lot;
 use crate::tally::DAMAGED;
@@ -78,13 +78,13 @@ fn make(q: Request, image: &mut Buffer, second: &mut Buffer, tally: &mut Tally) 
 fn fill_treasury(plan: Plan, image: &mut Buffer, second: &mut Buffer, tally: &mut Tally) {
     for k in 0..1001u64 {
         let account = plus(1, k % 6);
-        make(request(1, account, 0, MOST_AMOUNT), image, second, tally);
+        make(ask_for(1, account, 0, MOST_AMOUNT), image, second, tally);
     }
 }
 
 fn register_all(image: &mut Buffer, second: &mut Buffer, tally: &mut Tally) {
     for lot in 1..129u64 {
-        let mut q = request(3, 2, lot, 0);
+        let mut q = ask_for(3, 2, lot, 0);
         q.weight = plus(40000, lot);
         make(q, image, second, tally);
     }
@@ -93,19 +93,19 @@ fn register_all(image: &mut Buffer, second: &mut Buffer, tally: &mut Tally) {
 fn pay_all(image: &mut Buffer, second: &mut Buffer, tally: &mut Tally) {
     for account in 1..97u64 {
         let amount = plus(2000000000, product(account, 400000000));
-        make(request(1, account, 0, amount), image, second, tally);
+        make(ask_for(1, account, 0, amount), image, second, tally);
     }
 }
 
 // Every receipt is listed and gets a bid that stands.
 fn bid_all(plan: Plan, image: &mut Buffer, second: &mut Buffer, tally: &mut Tally) {
     for lot in 1..129u64 {
-        let mut q = request(4, 2, lot, 0);
+        let mut q = ask_for(4, 2, lot, 0);
         q.contract = 1;
         make(q, image, second, tally);
         let buyer = plus(3, lot % 22);
         let price = plus(15000, product(5, lot % 3));
-        make(request(6, buyer, lot, price), image, second, tally);
+        make(ask_for(6, buyer, lot, price), image, second, tally);
     }
 }
 
@@ -113,7 +113,7 @@ fn bid_all(plan: Plan, image: &mut Buffer, second: &mut Buffer, tally: &mut Tall
 fn lodge_most(image: &mut Buffer, second: &mut Buffer, tally: &mut Tally) {
     for lot in 1..129u64 {
         if lot % 4 != 0 {
-            make(request(10, 2, lot, 0), image, second, tally);
+            make(ask_for(10, 2, lot, 0), image, second, tally);
         }
     }
 }
@@ -123,28 +123,29 @@ fn fill_book(plan: Plan, image: &mut Buffer, second: &mut Buffer, tally: &mut Ta
     register_all(image, second, tally);
     pay_all(image, second, tally);
     bid_all(plan, image, second, tally);
-    make(request(11, 0, 0, 0), image, second, tally);
-    make(request(15, 0, 0, 0), image, second, tally);
+    make(ask_for(11, 0, 0, 0), image, second, tally);
+    make(ask_for(15, 0, 0, 0), image, second, tally);
     bid_all(plan, image, second, tally);
-    let mut quote = request(9, 0, 0, 15000);
+    let mut quote = ask_for(9, 0, 0, 15000);
     quote.contract = 1;
     make(quote, image, second, tally);
     lodge_most(image, second, tally);
-    make(request(11, 0, 0, 0), image, second, tally);
-    make(request(15, 0, 0, 0), image, second, tally);
+    make(ask_for(11, 0, 0, 0), image, second, tally);
+    make(ask_for(15, 0, 0, 0), image, second, tally);
 }
 
 // ── A run ───────────────────────────────────────────────────────────────────────────────────────
 
-// Both sides' fresh images; a later day is written into both.
-fn start(plan: Plan, image: &mut Buffer, second: &mut Buffer, tally: &mut Tally) {
+fn fresh_of_library() -> Buffer {
+    let mut image: Buffer = filled();
     crz::crz_fresh(&mut image[..5696]);
-    ledger::fresh(&mut second[..5696]);
-    if !same(image, second) {
-        add(tally, DIFFERENCES, 1);
-    }
-    put_field(image, 6, 2, plan.day);
-    put_field(second, 6, 2, plan.day);
+    image
+}
+
+fn fresh_of_ledger() -> Buffer {
+    let mut image: Buffer = filled();
+    ledger::fresh(&mut image[..5696]);
+    image
 }
 
 fn turns(plan: Plan, image: &mut Buffer, second: &mut Buffer, tally: &mut Tally) {
@@ -155,10 +156,15 @@ fn turns(plan: Plan, image: &mut Buffer, second: &mut Buffer, tally: &mut Tally)
     }
 }
 
+// Both sides start on their own fresh image; a later day is written into both.
 pub fn run(plan: Plan, tally: &mut Tally) {
-    let mut image: Buffer = [FILL; 5760];
-    let mut second: Buffer = [FILL; 5760];
-    start(plan, &mut image, &mut second, tally);
+    let mut image: Buffer = fresh_of_library();
+    let mut second: Buffer = fresh_of_ledger();
+    if !same(&image, &second) {
+        add(tally, DIFFERENCES, 1);
+    }
+    put_field(&mut image, 6, 2, plan.day);
+    put_field(&mut second, 6, 2, plan.day);
     if plan.full_treasury {
         fill_treasury(plan, &mut image, &mut second, tally);
     }

@@ -9,11 +9,15 @@ pub const NUMBERS: u64 = 0;
 pub const KINDS: u64 = 16;
 // Entries by outcome, 1 to 15.
 pub const OUTCOMES: u64 = 32;
+
 pub const CALLS: u64 = 48;
+
 pub const DIFFERENCES: u64 = 49;
+
 pub const MOST_ENTRIES: u64 = 50;
 // Damaged images: refused by number 2, and still valid.
 pub const DAMAGED: u64 = 51;
+
 pub const STILL_VALID: u64 = 52;
 
 pub fn counted(tally: &Tally, place: u64) -> u64 {

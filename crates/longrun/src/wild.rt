@@ -97,16 +97,32 @@ fn odd_length(seed: &mut u64, right: u64, most: u64) -> u64 {
     }
 }
 
-pub fn wild(seed: &mut u64, plan: Plan, image: &Buffer) -> Request {
+// A sensible call with one or two odd fields.
+fn odd_call(seed: &mut u64, plan: Plan, image: &Buffer) -> Request {
+    let known = sensible(seed, plan, image);
+    let q = odd_field(seed, known);
+    if percent(seed, 20) {
+        return odd_field(seed, q);
+    }
+    q
+}
+
+// A sensible call with a wrong length, or a longer answer buffer.
+fn odd_lengths(seed: &mut u64, plan: Plan, image: &Buffer) -> Request {
     let mut q = sensible(seed, plan, image);
-    let draw = below(seed, 8);
+    let draw = below(seed, 4);
     match draw {
         0 => q.call_length = odd_length(seed, 24, 88),
         1 => q.image_length = odd_length(seed, 5696, 5760),
-        2 => q.answer_length = odd_length(seed, 1040, 1103),
-        3 => q.answer_length = between(seed, 1040, 1104),
-        4 => q = odd_field(seed, odd_field(seed, q)),
-        _ => q = odd_field(seed, q),
+        2 => q.answer_length = odd_length(seed, 1040, 1104),
+        _ => q.answer_length = between(seed, 1040, 1104),
     }
     q
+}
+
+pub fn wild(seed: &mut u64, plan: Plan, image: &Buffer) -> Request {
+    if percent(seed, 50) {
+        return odd_call(seed, plan, image);
+    }
+    odd_lengths(seed, plan, image)
 }

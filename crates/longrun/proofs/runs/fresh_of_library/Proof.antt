@@ -1,0 +1,31 @@
+use mathlib.Core.Path.{sym}
+use native.Mathlib.Omega.{arith}
+use lib.Seq.{length-take-le}
+use borrow.Author.Needs.{needs}
+use Rattle.longrun.proofs.runs.fresh_of_library.Statement.{statement}
+use Rattle.longrun.proofs.runs.fresh_of_library.Tie as tie
+
+filled-requires : tie.Need-filled-requires
+filled-requires c κs = search needs
+
+array-borrow-prefix-image : tie.Need-array-borrow-prefix-image
+array-borrow-prefix-image c = search needs
+
+slice-aggregate-crz-fresh : tie.Need-slice-aggregate-crz-fresh
+slice-aggregate-crz-fresh c = sym (length-take-le 5696 (c .before .filled .result) (omega (arith, c .before .filled .ensures)))
+
+crz-fresh-requires : tie.Need-crz-fresh-requires
+crz-fresh-requires c κs = search needs
+
+returns : tie.Need-returns
+returns c = search needs
+
+pub fresh-of-library-spec : {M : Type 1} → statement M
+fresh-of-library-spec =
+    tie.close
+    (tie.spec
+    filled-requires
+    array-borrow-prefix-image
+    slice-aggregate-crz-fresh
+    crz-fresh-requires
+    returns)

@@ -1,0 +1,33 @@
+use borrow.Author.Needs.{needs}
+use Prim.Native.Nat.{_≤_, _-_}
+use Rattle.longrun.proofs.runs.turns.Statement.{statement}
+use Rattle.longrun.proofs.runs.turns.Tie as tie
+
+abbrev Inv-loop : tie.InvT-loop
+Inv-loop plan image₀ second₀ tally₀ seed₀ calls k₀ image second tally seed k = k ≤ calls
+
+abbrev μ-loop : tie.MeasureT-loop
+μ-loop plan image₀ second₀ tally₀ seed₀ calls k₀ image second tally seed k = calls - k
+
+loop-holds : tie.Need-loop-holds Inv-loop μ-loop
+loop-holds c = search needs
+
+turn-requires : tie.Need-turn-requires Inv-loop μ-loop
+turn-requires c κs = search needs
+
+add-k : tie.Need-add-k Inv-loop μ-loop
+add-k c = search needs
+
+loop-less : tie.Need-loop-less Inv-loop μ-loop
+loop-less c = search needs
+
+loop-again : tie.Need-loop-again Inv-loop μ-loop
+loop-again c = search needs
+
+returns : tie.Need-returns Inv-loop μ-loop
+returns c = search needs
+
+pub turns-spec : {M : Type 1} → statement M
+turns-spec =
+    tie.close
+    (tie.spec Inv-loop μ-loop loop-holds turn-requires add-k loop-less loop-again returns)
