@@ -129,7 +129,7 @@ fn count(q: Request, number: u64, answer: &Buffer, tally: &mut Tally) {
     add(tally, CALLS, 1);
     add(tally, plus(NUMBERS, number), 1);
     if number == 0 {
-        add(tally, plus(KINDS, q.kind), 1);
+        add(tally, plus(KINDS, q.kind % 256), 1);
         count_entries(answer, tally);
     }
 }

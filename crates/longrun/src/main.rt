@@ -49,7 +49,7 @@ fn full_books(tally: &mut Tally) {
 // Money up to the limit, and the last days that a zone has.
 fn last_days(tally: &mut Tally) {
     let mut late = plan(12605985483714917081, 12000, 24, 6, 40);
-    late.day = 29800;
+    late.day = 29850;
     late.full_treasury = true;
     runs::run(late, tally);
 }

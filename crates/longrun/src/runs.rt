@@ -16,13 +16,13 @@ use crate::requests::sensible;
 use crate::requests::step_lot;
 use crate::tally::DAMAGED;
 use crate::tally::DIFFERENCES;
-use crate::tally::NUMBERS;
 use crate::tally::STILL_VALID;
 use crate::tally::Tally;
 use crate::tally::add;
 use crate::tally::counted;
-use crate::wild::wild;
-use ledger::minus;
+use crate::tally::set;
+use crate::wild::make_wild;
+use crate::wild::odd_field;
 use ledger::plus;
 use ledger::product;
 
@@ -44,16 +44,24 @@ fn judge_damaged(seed: &mut u64, plan: Plan, image: &Buffer, tally: &mut Tally) 
     let lot = damage(seed, &mut copy, plan);
     let mut second: Buffer = copy;
     let mut apart: Tally = [0; 64];
-    let q = request_on(seed, plan, &copy, lot);
+    let mut q = request_on(seed, plan, &copy, lot);
+    if percent(seed, 10) {
+        q = odd_field(seed, q);
+    }
+    set(&mut apart, DIFFERENCES, counted(tally, DIFFERENCES));
     if drive(q, &mut copy, &mut second, &mut apart) == 2 {
         add(tally, DAMAGED, 1);
     } else {
         add(tally, STILL_VALID, 1);
     }
-    add(tally, DIFFERENCES, counted(&apart, DIFFERENCES));
+    set(tally, DIFFERENCES, counted(&apart, DIFFERENCES));
 }
 
 // ── Calls ───────────────────────────────────────────────────────────────────────────────────────
+
+fn make(q: Request, image: &mut Buffer, second: &mut Buffer, tally: &mut Tally) {
+    drive(q, image, second, tally);
+}
 
 fn turn(seed: &mut u64, plan: Plan, image: &mut Buffer, second: &mut Buffer, tally: &mut Tally) {
     let draw = below(seed, 100);
@@ -61,21 +69,17 @@ fn turn(seed: &mut u64, plan: Plan, image: &mut Buffer, second: &mut Buffer, tal
         judge_damaged(seed, plan, image, tally);
         return;
     }
+    let q = sensible(seed, plan, image);
     if draw < 24 {
-        let odd = wild(seed, plan, image);
-        drive(odd, image, second, tally);
+        let odd = make_wild(seed, q);
+        make(odd, image, second, tally);
         return;
     }
-    let q = sensible(seed, plan, image);
-    drive(q, image, second, tally);
-}
-
-fn make(q: Request, image: &mut Buffer, second: &mut Buffer, tally: &mut Tally) {
-    drive(q, image, second, tally);
+    make(q, image, second, tally);
 }
 
 // Pay-ins up to 10^15 fen, and one that would pass it.
-fn fill_treasury(plan: Plan, image: &mut Buffer, second: &mut Buffer, tally: &mut Tally) {
+fn fill_treasury(image: &mut Buffer, second: &mut Buffer, tally: &mut Tally) {
     for k in 0..1001u64 {
         let account = plus(1, k % 6);
         make(ask_for(1, account, 0, MOST_AMOUNT), image, second, tally);
@@ -98,7 +102,7 @@ fn pay_all(image: &mut Buffer, second: &mut Buffer, tally: &mut Tally) {
 }
 
 // Every receipt is listed and gets a bid that stands.
-fn bid_all(plan: Plan, image: &mut Buffer, second: &mut Buffer, tally: &mut Tally) {
+fn bid_all(image: &mut Buffer, second: &mut Buffer, tally: &mut Tally) {
     for lot in 1..129u64 {
         let mut q = ask_for(4, 2, lot, 0);
         q.contract = 1;
@@ -119,13 +123,13 @@ fn lodge_most(image: &mut Buffer, second: &mut Buffer, tally: &mut Tally) {
 }
 
 // All 128 lots through a day close, and then through a quote and a morning close, so that answers are full.
-fn fill_book(plan: Plan, image: &mut Buffer, second: &mut Buffer, tally: &mut Tally) {
+fn fill_book(image: &mut Buffer, second: &mut Buffer, tally: &mut Tally) {
     register_all(image, second, tally);
     pay_all(image, second, tally);
-    bid_all(plan, image, second, tally);
+    bid_all(image, second, tally);
     make(ask_for(11, 0, 0, 0), image, second, tally);
     make(ask_for(15, 0, 0, 0), image, second, tally);
-    bid_all(plan, image, second, tally);
+    bid_all(image, second, tally);
     let mut quote = ask_for(9, 0, 0, 15000);
     quote.contract = 1;
     make(quote, image, second, tally);
@@ -166,10 +170,10 @@ pub fn run(plan: Plan, tally: &mut Tally) {
     put_field(&mut image, 6, 2, plan.day);
     put_field(&mut second, 6, 2, plan.day);
     if plan.full_treasury {
-        fill_treasury(plan, &mut image, &mut second, tally);
+        fill_treasury(&mut image, &mut second, tally);
     }
     if plan.full_book {
-        fill_book(plan, &mut image, &mut second, tally);
+        fill_book(&mut image, &mut second, tally);
     }
     turns(plan, &mut image, &mut second, tally);
 }

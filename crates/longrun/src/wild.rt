@@ -1,12 +1,9 @@
 // Wild calls: a sensible call with one field at an edge of some range, or with a wrong length.
-use crate::buffers::Buffer;
 use crate::draws::below;
 use crate::draws::between;
 use crate::draws::percent;
 use crate::draws::word;
-use crate::requests::Plan;
 use crate::requests::Request;
-use crate::requests::sensible;
 use ledger::minus;
 use ledger::plus;
 
@@ -69,7 +66,8 @@ fn odd_value(seed: &mut u64) -> u64 {
     edge(seed)
 }
 
-fn odd_field(seed: &mut u64, known: Request) -> Request {
+// One field of a call gets another value.
+pub fn odd_field(seed: &mut u64, known: Request) -> Request {
     let mut q = known;
     let field = below(seed, 9);
     let value = odd_value(seed);
@@ -97,19 +95,9 @@ fn odd_length(seed: &mut u64, right: u64, most: u64) -> u64 {
     }
 }
 
-// A sensible call with one or two odd fields.
-fn odd_call(seed: &mut u64, plan: Plan, image: &Buffer) -> Request {
-    let known = sensible(seed, plan, image);
-    let q = odd_field(seed, known);
-    if percent(seed, 20) {
-        return odd_field(seed, q);
-    }
-    q
-}
-
-// A sensible call with a wrong length, or a longer answer buffer.
-fn odd_lengths(seed: &mut u64, plan: Plan, image: &Buffer) -> Request {
-    let mut q = sensible(seed, plan, image);
+// One buffer of a wrong length, or a longer answer buffer.
+fn odd_buffer(seed: &mut u64, known: Request) -> Request {
+    let mut q = known;
     let draw = below(seed, 4);
     match draw {
         0 => q.call_length = odd_length(seed, 24, 88),
@@ -120,9 +108,20 @@ fn odd_lengths(seed: &mut u64, plan: Plan, image: &Buffer) -> Request {
     q
 }
 
-pub fn wild(seed: &mut u64, plan: Plan, image: &Buffer) -> Request {
-    if percent(seed, 50) {
-        return odd_call(seed, plan, image);
+// A field, a buffer or two of these are odd: the lowest number that applies then decides.
+pub fn make_wild(seed: &mut u64, known: Request) -> Request {
+    let mut q = known;
+    if percent(seed, 60) {
+        q = odd_field(seed, q);
     }
-    odd_lengths(seed, plan, image)
+    if percent(seed, 20) {
+        q = odd_field(seed, q);
+    }
+    if percent(seed, 40) {
+        q = odd_buffer(seed, q);
+    }
+    if percent(seed, 10) {
+        q = odd_buffer(seed, q);
+    }
+    q
 }
