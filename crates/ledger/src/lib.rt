@@ -3,7 +3,7 @@
 //
 // It is built another way on purpose. The zone is a book of columns of numbers. Of an account it keeps one number, its wealth: free and
 // frozen money together. What is frozen is never moved: it is counted anew from the lots wherever it is asked for. A call's entries
-// stand in columns beside the lots that they are about. Every number from 3 to 13 is one test over all kinds.
+// stand in columns beside the lots that they are about. Each kind tests its own numbers, in rising order.
 mod answers;
 mod bytes;
 mod closes;

@@ -1,4 +1,4 @@
-// The numbers 3 to 13, each one test over all kinds. The lowest that applies is returned.
+// The number of a call, kind by kind: each kind tests, in rising order, the numbers that can apply to it.
 use crate::columns::ASK;
 use crate::columns::BASIS;
 use crate::columns::BUYER;
@@ -25,218 +25,262 @@ use crate::payments::plus;
 use crate::payments::unit_price;
 use crate::records::Call;
 use crate::records::is_account;
+use crate::records::is_amount;
 use crate::records::is_basis;
 use crate::records::is_contract;
 use crate::records::is_price;
+use crate::records::is_receipt;
 use crate::records::is_weight;
 use crate::records::within;
 
-// ── 3: call not of the form ─────────────────────────────────────────────────────────────────────
+// ── 3: unused field not zero ────────────────────────────────────────────────────────────────────
 
-// The brackets behind the kinds name the fields that each uses.
-fn uses_account(kind: u64) -> bool {
-    (kind != 9) & (kind != 11) & (kind != 15)
+// The fields that stand in no kind's brackets but 3's, 4's and 9's, put together bit by bit.
+fn terms(c: Call) -> u64 {
+    c.contract | c.days | c.basis | c.weight
 }
 
-fn uses_receipt(kind: u64) -> bool {
-    within(kind, 3, 8) | (kind == 10) | within(kind, 12, 14)
-}
-
-fn uses_contract(kind: u64) -> bool {
-    (kind == 4) | (kind == 9)
-}
-
-fn uses_amount(kind: u64) -> bool {
-    (kind == 1) | (kind == 2) | (kind == 6) | (kind == 9) | (kind == 13)
-}
-
-// A field that is not zero though the kind does not use it.
-fn stray(used: bool, value: u64) -> bool {
-    !used & (value != 0)
-}
-
-fn malformed(c: Call) -> bool {
+// The fields that the kind's brackets do not name, put together: 0 where each is zero. An unknown kind leaves a bit too.
+fn unused(c: Call) -> u64 {
     let kind = c.kind;
-    let parties = stray(uses_account(kind), c.account) | stray(uses_receipt(kind), c.receipt);
-    let terms = stray(uses_contract(kind), c.contract)
-        | stray(kind == 4, c.days)
-        | stray(kind == 4, c.basis);
-    let quantities = stray(uses_amount(kind), c.amount) | stray(kind == 3, c.weight);
-    !within(kind, 1, 15) | parties | terms | quantities | (c.spare != 0)
-}
-
-// ── 4: field out of range ───────────────────────────────────────────────────────────────────────
-
-// "amount 1 to 10^12", a price for a limit bid, "price or 0" for a quote.
-fn amount_ok(kind: u64, amount: u64) -> bool {
     match kind {
-        6 => is_price(amount),
-        9 => (amount == 0) | is_price(amount),
-        _ => within(amount, 1, 1000000000000),
+        1 => c.receipt | terms(c),
+        2 => c.receipt | terms(c),
+        3 => c.contract | c.days | c.amount | c.basis,
+        4 => c.amount | c.weight,
+        5 => c.amount | terms(c),
+        6 => terms(c),
+        7 => c.amount | terms(c),
+        8 => c.amount | terms(c),
+        9 => c.account | c.receipt | c.days | c.basis | c.weight,
+        10 => c.amount | terms(c),
+        11 => c.account | c.receipt | c.amount | terms(c),
+        12 => c.amount | terms(c),
+        13 => terms(c),
+        14 => c.amount | terms(c),
+        15 => c.account | c.receipt | c.amount | terms(c),
+        _ => 1,
     }
 }
 
-fn out_of_range(c: Call) -> bool {
-    let kind = c.kind;
-    let parties = (uses_account(kind) & !is_account(c.account))
-        | (uses_receipt(kind) & !within(c.receipt, 1, 128));
-    let terms = (uses_contract(kind) & !is_contract(c.contract))
-        | ((kind == 4) & ((c.days > 3) | !is_basis(c.basis)));
-    let quantities = (uses_amount(kind) & !amount_ok(kind, c.amount))
-        | ((kind == 3) & !is_weight(c.weight));
-    parties | terms | quantities
-}
+// ── Money and receipts ──────────────────────────────────────────────────────────────────────────
 
-// ── 5 to 7: phase, state, party ─────────────────────────────────────────────────────────────────
-
-// "11 in an afternoon; 15 in a morning or on day 30,000".
-fn wrong_phase(book: &Book, kind: u64) -> bool {
-    let morning = cell(book, ZONE, PHASE) == 0;
-    ((kind == 11) & !morning) | ((kind == 15) & (morning | (cell(book, ZONE, DAY) == 30000)))
-}
-
-// Whether the kind takes a receipt that is in this state.
-fn takes_state(kind: u64, state: u64) -> bool {
-    match kind {
-        4 => state == 0,
-        5 => within(state, 1, 2),
-        6 => within(state, 1, 2),
-        7 => within(state, 1, 2),
-        8 => state == 2,
-        10 => state == 3,
-        12 => state == 5,
-        13 => state == 6,
-        14 => state == 6,
-        _ => true,
+// 12: "total would pass 10^15".
+fn pay_in(book: &Book, c: Call) -> u64 {
+    if !(is_account(c.account) & is_amount(c.amount)) {
+        return 4;
     }
-}
-
-// "receipt .. not in the state named; 13 with an invoice pending, 14 with none". Register wants an unregistered receipt, list a
-// registered one.
-fn wrong_state(book: &Book, kind: u64, lot: u64) -> bool {
-    let unregistered = cell(book, OWNER, lot) == 0;
-    let pending = cell(book, PENDING, lot) != 0;
-    let registration = ((kind == 3) & !unregistered) | ((kind == 4) & unregistered);
-    let invoice = ((kind == 13) & pending) | ((kind == 14) & !pending);
-    registration | invoice | !takes_state(kind, cell(book, STATE, lot))
-}
-
-// "not the party named; 6, 7 .. by the seller".
-fn wrong_party(book: &Book, kind: u64, lot: u64, account: u64) -> bool {
-    let seller = cell(book, SELLER, lot);
-    let buyer = cell(book, BUYER, lot);
-    match kind {
-        4 => account != cell(book, OWNER, lot),
-        5 => account != seller,
-        6 => account == seller,
-        7 => account == seller,
-        8 => account != buyer,
-        10 => account != seller,
-        12 => account != seller,
-        13 => account != seller,
-        14 => account != buyer,
-        _ => false,
+    if plus(cell(book, ZONE, TOTAL), c.amount) > MOST_TOTAL {
+        return 12;
     }
+    0
 }
 
-// ── 8 to 11: bids and money ─────────────────────────────────────────────────────────────────────
-
-// "limit price not above the standing bid".
-fn not_above(book: &Book, kind: u64, lot: u64, price: u64) -> bool {
-    (kind == 6) & (cell(book, STATE, lot) == 2) & (price <= cell(book, PRICE, lot))
+fn take_out(book: &Book, c: Call) -> u64 {
+    if !(is_account(c.account) & is_amount(c.amount)) {
+        return 4;
+    }
+    if free(book, c.account) < c.amount {
+        return 11;
+    }
+    0
 }
+
+// Numbers 4, 6 and 7 of a kind that has an account and a receipt.
+fn lot_number(c: Call, in_state: bool, by_party: bool) -> u64 {
+    if !(is_account(c.account) & is_receipt(c.receipt)) {
+        return 4;
+    }
+    if !in_state {
+        return 6;
+    }
+    if !by_party {
+        return 7;
+    }
+    0
+}
+
+// "an unregistered receipt", by anyone.
+fn register(book: &Book, c: Call) -> u64 {
+    if !is_weight(c.weight) {
+        return 4;
+    }
+    lot_number(c, cell(book, OWNER, c.receipt) == 0, true)
+}
+
+// "an idle, registered receipt (else 6), by its owner".
+fn list(book: &Book, c: Call) -> u64 {
+    let owner = cell(book, OWNER, c.receipt);
+    if !(is_contract(c.contract) & (c.days <= 3) & is_basis(c.basis)) {
+        return 4;
+    }
+    lot_number(
+        c,
+        (cell(book, STATE, c.receipt) == 0) & (owner != 0),
+        c.account == owner,
+    )
+}
+
+// ── Parties ─────────────────────────────────────────────────────────────────────────────────────
+
+fn is_seller(book: &Book, c: Call) -> bool {
+    c.account == cell(book, SELLER, c.receipt)
+}
+
+fn is_buyer(book: &Book, c: Call) -> bool {
+    c.account == cell(book, BUYER, c.receipt)
+}
+
+fn by_seller(book: &Book, c: Call, state: u64) -> u64 {
+    lot_number(c, cell(book, STATE, c.receipt) == state, is_seller(book, c))
+}
+
+// States 1 and 2.
+fn is_open(book: &Book, lot: u64) -> bool {
+    within(cell(book, STATE, lot), 1, 2)
+}
+
+fn withdraw_listing(book: &Book, c: Call) -> u64 {
+    lot_number(c, is_open(book, c.receipt), is_seller(book, c))
+}
+
+fn withdraw_bid(book: &Book, c: Call) -> u64 {
+    lot_number(c, cell(book, STATE, c.receipt) == 2, is_buyer(book, c))
+}
+
+// ── Bids ────────────────────────────────────────────────────────────────────────────────────────
 
 // The ask of a lot's contract.
 pub fn ask_of(book: &Book, lot: u64) -> u64 {
     cell(book, ASK, cell(book, CONTRACT, lot))
 }
 
-// "kind 6: bid price + basis < 1; kind 7: ask + basis < 1".
-fn not_payable(book: &Book, kind: u64, lot: u64, price: u64) -> bool {
-    let basis = cell(book, BASIS, lot);
-    match kind {
-        6 => unit_price(price, basis) < 1,
-        7 => unit_price(ask_of(book, lot), basis) < 1,
-        _ => false,
+// 11: free money under the deposit. A standing bid of the caller's own is freed "before the money test".
+fn lacks_deposit(book: &Book, c: Call) -> bool {
+    let mut money = free(book, c.account);
+    if is_buyer(book, c) {
+        money = plus(money, hold(book, c.receipt));
     }
+    money < DEPOSIT
 }
 
-// The caller's free money at a bid: a standing bid of its own is freed "before the money test".
-fn money_to_bid(book: &Book, lot: u64, account: u64) -> u64 {
-    let money = free(book, account);
-    if cell(book, BUYER, lot) == account {
-        return plus(money, hold(book, lot));
-    }
-    money
-}
-
-// "free money under the amount (kind 2) or the deposit (6, 7)".
-fn no_money(book: &Book, c: Call) -> bool {
-    let kind = c.kind;
-    match kind {
-        2 => free(book, c.account) < c.amount,
-        6 => money_to_bid(book, c.receipt, c.account) < DEPOSIT,
-        7 => money_to_bid(book, c.receipt, c.account) < DEPOSIT,
-        _ => false,
-    }
-}
-
-// ── 12, 13: limits ──────────────────────────────────────────────────────────────────────────────
-
-// "total would pass 10^15".
-fn over_limit(book: &Book, kind: u64, amount: u64) -> bool {
-    (kind == 1) & (plus(cell(book, ZONE, TOTAL), amount) > MOST_TOTAL)
-}
-
-// "invoice > full - confirmed".
-fn over_invoice(book: &Book, kind: u64, lot: u64, amount: u64) -> bool {
-    (kind == 13) & (amount > minus(full_of(book, lot), cell(book, CONFIRMED, lot)))
-}
-
-// ── The lowest that applies ─────────────────────────────────────────────────────────────────────
-
-// Numbers 8 to 13, of a call to which none below applies.
-fn number_of_money(book: &Book, c: Call) -> u64 {
-    let kind = c.kind;
-    let lot = c.receipt;
-    if not_above(book, kind, lot, c.amount) {
-        return 8;
-    }
-    if (kind == 7) & (ask_of(book, lot) == 0) {
-        return 9;
-    }
-    if not_payable(book, kind, lot, c.amount) {
+// 10 and 11 of a bid at this price.
+fn terms_number(book: &Book, c: Call, price: u64) -> u64 {
+    if unit_price(price, cell(book, BASIS, c.receipt)) < 1 {
         return 10;
     }
-    if no_money(book, c) {
+    if lacks_deposit(book, c) {
         return 11;
     }
-    if over_limit(book, kind, c.amount) {
-        return 12;
+    0
+}
+
+// 8: "limit price not above the standing bid".
+fn limit_bid(book: &Book, c: Call) -> u64 {
+    if !is_price(c.amount) {
+        return 4;
     }
-    if over_invoice(book, kind, lot, c.amount) {
+    let number = lot_number(c, is_open(book, c.receipt), !is_seller(book, c));
+    if number != 0 {
+        return number;
+    }
+    if (cell(book, STATE, c.receipt) == 2) & (c.amount <= cell(book, PRICE, c.receipt)) {
+        return 8;
+    }
+    terms_number(book, c, c.amount)
+}
+
+// 9: "market bid, no ask".
+fn market_bid(book: &Book, c: Call) -> u64 {
+    let ask = ask_of(book, c.receipt);
+    let number = lot_number(c, is_open(book, c.receipt), !is_seller(book, c));
+    if number != 0 {
+        return number;
+    }
+    if ask == 0 {
+        return 9;
+    }
+    terms_number(book, c, ask)
+}
+
+// "price or 0".
+fn quote(c: Call) -> u64 {
+    if is_contract(c.contract) & ((c.amount == 0) | is_price(c.amount)) {
+        return 0;
+    }
+    4
+}
+
+// ── Closes ──────────────────────────────────────────────────────────────────────────────────────
+
+// 5: "11 in an afternoon".
+fn morning_close(book: &Book) -> u64 {
+    if cell(book, ZONE, PHASE) == 1 {
+        return 5;
+    }
+    0
+}
+
+// 5: "15 in a morning or on day 30,000".
+fn day_close(book: &Book) -> u64 {
+    if (cell(book, ZONE, PHASE) == 0) | (cell(book, ZONE, DAY) == 30000) {
+        return 5;
+    }
+    0
+}
+
+// ── Invoices ────────────────────────────────────────────────────────────────────────────────────
+
+// 6 "with an invoice pending"; 13: "invoice > full - confirmed".
+fn invoice(book: &Book, c: Call) -> u64 {
+    let lot = c.receipt;
+    if !is_amount(c.amount) {
+        return 4;
+    }
+    let ready = (cell(book, STATE, lot) == 6) & (cell(book, PENDING, lot) == 0);
+    let number = lot_number(c, ready, is_seller(book, c));
+    if number != 0 {
+        return number;
+    }
+    if c.amount > minus(full_of(book, lot), cell(book, CONFIRMED, lot)) {
         return 13;
     }
     0
 }
 
-pub fn number(book: &Book, c: Call) -> u64 {
+// 6 with none pending.
+fn confirm(book: &Book, c: Call) -> u64 {
+    let pending = (cell(book, STATE, c.receipt) == 6) & (cell(book, PENDING, c.receipt) != 0);
+    lot_number(c, pending, is_buyer(book, c))
+}
+
+// ── All kinds ───────────────────────────────────────────────────────────────────────────────────
+
+fn number_of_kind(book: &Book, c: Call) -> u64 {
     let kind = c.kind;
-    let lot = c.receipt;
-    if malformed(c) {
+    match kind {
+        1 => pay_in(book, c),
+        2 => take_out(book, c),
+        3 => register(book, c),
+        4 => list(book, c),
+        5 => withdraw_listing(book, c),
+        6 => limit_bid(book, c),
+        7 => market_bid(book, c),
+        8 => withdraw_bid(book, c),
+        9 => quote(c),
+        10 => by_seller(book, c, 3),
+        11 => morning_close(book),
+        12 => by_seller(book, c, 5),
+        13 => invoice(book, c),
+        14 => confirm(book, c),
+        _ => day_close(book),
+    }
+}
+
+// The lowest number from 3 on that applies, 0 where none does.
+pub fn number(book: &Book, c: Call) -> u64 {
+    if (unused(c) | c.spare) != 0 {
         return 3;
     }
-    if out_of_range(c) {
-        return 4;
-    }
-    if wrong_phase(book, kind) {
-        return 5;
-    }
-    if wrong_state(book, kind, lot) {
-        return 6;
-    }
-    if wrong_party(book, kind, lot, c.account) {
-        return 7;
-    }
-    number_of_money(book, c)
+    number_of_kind(book, c)
 }

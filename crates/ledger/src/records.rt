@@ -36,8 +36,17 @@ pub fn is_account(x: u64) -> bool {
     within(x, 1, 96)
 }
 
+pub fn is_receipt(x: u64) -> bool {
+    within(x, 1, 128)
+}
+
 pub fn is_contract(x: u64) -> bool {
     within(x, 1, 8)
+}
+
+// "amount 1 to 10^12".
+pub fn is_amount(x: u64) -> bool {
+    within(x, 1, 1000000000000)
 }
 
 // "price a multiple of 5 from 5 to 200,000".

@@ -179,10 +179,11 @@ pub fn drive(q: Request, image: &mut Buffer, second: &mut Buffer, tally: &mut Ta
     );
     count(q, number, &answer, tally);
     let agree = (number == of_ledger) & same(&ours, &theirs) & same(&answer, &other);
+    *image = ours;
+    *second = theirs;
     if !(agree & left_alone(number, &before, &ours, &answer)) {
         show(tally, q.kind, number, of_ledger);
+        *second = ours;
     }
-    *image = ours;
-    *second = ours;
     number
 }
