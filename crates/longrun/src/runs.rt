@@ -14,6 +14,7 @@ use crate::requests::ask_for;
 use crate::requests::close_phase;
 use crate::requests::sensible;
 use crate::requests::step_lot;
+use crate::tally::CALLS;
 use crate::tally::DAMAGED;
 use crate::tally::DIFFERENCES;
 use crate::tally::STILL_VALID;
@@ -48,6 +49,7 @@ fn judge_damaged(seed: &mut u64, plan: Plan, image: &Buffer, tally: &mut Tally) 
     if percent(seed, 10) {
         q = odd_field(seed, q);
     }
+    set(&mut apart, CALLS, counted(tally, CALLS));
     set(&mut apart, DIFFERENCES, counted(tally, DIFFERENCES));
     if drive(q, &mut copy, &mut second, &mut apart) == 2 {
         add(tally, DAMAGED, 1);

@@ -1,4 +1,4 @@
-// Wild calls: a sensible call with one field at an edge of some range, or with a wrong length.
+// Wild calls: sensible ones with a field or two at the edge of some range, or with buffers of a wrong length.
 use crate::draws::below;
 use crate::draws::between;
 use crate::draws::percent;
