@@ -1,5 +1,6 @@
 -- Laws of the definitions of this crate.
 -- Assumes nothing.
 pub mod Past
+pub mod Over
 pub mod Visits
 pub mod Swept

@@ -1,2 +1,3 @@
 pub mod Laws
 pub mod Listed
+pub mod Concerned

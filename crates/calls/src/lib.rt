@@ -1,7 +1,8 @@
 // A whole call on values: its number, or the zone after it and the entries listed.
 ghost use mathlib.Core.Path.{_≡_};
 ghost use mathlib.Core.Bool.{true};
-ghost use Prim.Native.Nat.{_≤_};
+ghost use Prim.Native.Nat.{_≤_, _<_};
+ghost use lib.ListN.{set};
 ghost use Rattle.zone.specs.Valid.{validZone};
 ghost use Rattle.rules.specs.Effects.{opening, ending, firstLot, lotCount, ruleAt, effect};
 ghost use Rattle.rules.specs.Events.{happen, passed, sweep};
@@ -11,7 +12,8 @@ ghost use Rattle.rules.specs.Outcome.{numberOf};
 ghost use Rattle.rules.specs.Sized.{Sized};
 ghost use Rattle.rules.specs.View.{viewOf, receiptAt, askAt, freeAt};
 ghost use Rattle.calls.specs.Laws.Visits.{Visits, Happens};
-ghost use Rattle.calls.specs.Listed.{recorded, sweptOf};
+ghost use Rattle.calls.specs.Concerned.{concerned};
+ghost use Rattle.calls.specs.Listed.{sweptOf};
 use rules::Call;
 use rules::Entry;
 use rules::Step;
@@ -59,8 +61,9 @@ fn ask_of(l: [YuanPerTonne; 8], contract: u8) -> YuanPerTonne
     l[k]
 }
 
-fn receipt_at(l: [Receipt; 128], n: u8) -> Receipt
-    ensures { λ r. ⌜ r ≡ receiptAt l n ⌝ }
+fn receipt_at(z: Zone, n: u8) -> Receipt
+    requires { ⌜ Sized z ⌝ }
+    ensures { λ r. ⌜ r ≡ receiptAt (z .receipts) n ⌝ }
 {
     if n == 0 {
         return zone::no_receipt();
@@ -69,7 +72,7 @@ fn receipt_at(l: [Receipt; 128], n: u8) -> Receipt
         return zone::no_receipt();
     }
     let k = (n - 1) as usize;
-    l[k]
+    z.receipts[k]
 }
 
 fn view_of(z: Zone, a: u8, r: Receipt) -> View
@@ -94,7 +97,7 @@ fn view_of(z: Zone, a: u8, r: Receipt) -> View
     }
 }
 
-// ── An event, and the lots in ascending order ───────────────────────────────────────────────────
+// ── An event ────────────────────────────────────────────────────────────────────────────────────
 
 // What passes between two accounts.
 fn passed_by(e: Entry) -> u64
@@ -108,6 +111,16 @@ fn passed_by(e: Entry) -> u64
     }
 }
 
+// The zone with other accounts and another receipt in place k.
+fn with_receipt(mut z: Zone, accounts: [Account; 96], k: usize, r: Receipt) -> Zone
+    requires { ⌜ k < 128 ⌝ }
+    ensures { λ x. ⌜ x ≡ record { day = z .day; afternoon = z .afternoon; asks = z .asks; accounts = accounts; receipts = set (z .receipts) k r; total = z .total } ⌝ }
+{
+    z.accounts = accounts;
+    z.receipts[k] = r;
+    z
+}
+
 fn happen_at(z: Zone, e: Entry, old: Receipt, new: Receipt) -> Zone
     requires { ⌜ Happens z e old new ⌝ }
     ensures { λ r. ⌜ r ≡ happen z e new ⌝ }
@@ -117,37 +130,31 @@ fn happen_at(z: Zone, e: Entry, old: Receipt, new: Receipt) -> Zone
     let accounts = z.accounts;
     let moved = rules::money::move_money(accounts, held, e.from, e.to, passed_by(e), holds);
     let k = (e.lot - 1) as usize;
-    let mut after = z;
-    after.accounts = moved;
-    after.receipts[k] = new;
-    after
+    with_receipt(z, moved, k, new)
 }
 
-// The rule of the call at lot n.
-fn visit(s: Swept, c: Call, n: u8) -> Swept
-    requires { ⌜ Visits s c n ⌝ }
-    ensures { λ r. ⌜ r ≡ recorded s (ruleAt c (s .zone) n) ⌝ }
+// ── The lots in ascending order ─────────────────────────────────────────────────────────────────
+
+// Whether the call's rule can do anything at the receipt; the test is cheaper than the rule.
+fn concerns(c: Call, r: Receipt) -> bool
+    ensures { λ x. ⌜ x ≡ concerned c r ⌝ }
 {
-    let z = s.zone;
-    let receipts = z.receipts;
-    let r = receipt_at(receipts, n);
-    let v = view_of(z, c.account, r);
-    let step = rules::kinds::rule_of(v, c, n, r);
-    match step {
-        Step::Event(e, new) => {
-            let at = s.count;
-            let mut entries = s.entries;
-            entries[at] = e;
-            let after = happen_at(z, e, r, new);
-            Swept {
-                zone: after,
-                count: at + 1,
-                entries: entries,
-            }
-        }
-        Step::NoEvent => s,
-        Step::Refused(_) => s,
+    let kind = c.kind;
+    let f = zone::record_of(r);
+    match kind {
+        9 => (f.state == 2) & (f.contract == c.contract),
+        11 => (f.state == 3) | (f.state == 4) | (f.state == 7),
+        15 => (f.state == 1) | (f.state == 2),
+        _ => true,
     }
+}
+
+// The rule of the call at lot n, which is receipt r.
+fn visit(z: Zone, c: Call, n: u8, r: Receipt) -> Step
+    requires { ⌜ Visits z c n r ⌝ }
+    ensures { λ x. ⌜ x ≡ ruleAt c z n ⌝ }
+{
+    rules::kinds::rule_of(view_of(z, c.account, r), c, n, r)
 }
 
 fn sweep_lots(z: Zone, c: Call, first: u8, more: usize) -> Swept
@@ -161,19 +168,33 @@ fn sweep_lots(z: Zone, c: Call, first: u8, more: usize) -> Swept
         to: 0,
         number: 0,
     };
-    let mut s = Swept {
-        zone: z,
-        count: 0,
-        entries: [none; 128],
-    };
+    let mut zone = z;
+    let mut count: usize = 0;
+    let mut entries = [none; 128];
     let mut i: usize = 0;
     while i < more {
         let n = first + (i as u8);
-        let next = visit(s, c, n);
-        s = next;
+        let k = (n - 1) as usize;
+        let r = zone.receipts[k];
+        if concerns(c, r) {
+            let step = visit(zone, c, n, r);
+            match step {
+                Step::Event(e, new) => {
+                    zone = happen_at(zone, e, r, new);
+                    entries[count] = e;
+                    count += 1;
+                }
+                Step::NoEvent => {}
+                Step::Refused(_) => {}
+            }
+        }
         i += 1;
     }
-    s
+    Swept {
+        zone: zone,
+        count: count,
+        entries: entries,
+    }
 }
 
 // ── Opening and ending ──────────────────────────────────────────────────────────────────────────
@@ -258,8 +279,7 @@ pub fn number_of(z: Zone, c: Call) -> u8
     requires { ⌜ Sized z × (validZone z ≡ true) ⌝ }
     ensures { λ r. ⌜ r ≡ numberOf z c ⌝ }
 {
-    let receipts = z.receipts;
-    let r = receipt_at(receipts, c.receipt);
+    let r = receipt_at(z, c.receipt);
     let step = rules::outcome::step_at(view_of(z, c.account, r), c, r);
     rules::outcome::step_number(step)
 }

@@ -41,23 +41,21 @@ sub-k c = search needs
 cast-k : tie.Need-cast-k
 cast-k c = search needs
 
-mul-new : tie.Need-mul-new
-mul-new c = search needs
-
-element-set-from-new : tie.Need-element-set-from-new
-element-set-from-new c = search needs
+with-receipt-requires : tie.Need-with-receipt-requires
+with-receipt-requires c κs = search needs
 
 returns : tie.Need-returns
 unfolding happen moved
 returns c =
-    let s = c .before .before .before .before .before .before .before .before in
+    let s = c .before .before .before .before .before .before .before .before .before in
     rw (
-      c .before .move-money .ensures,
-      c .before .before .passed-by .ensures,
-      c .before .before .before .before .hold-of2 .ensures,
-      c .before .before .before .before .before .record-of2 .ensures,
-      c .before .before .before .before .before .before .hold-of .ensures,
-      c .before .before .before .before .before .before .before .record-of .ensures,
+      c .with-receipt .ensures,
+      c .before .before .move-money .ensures,
+      c .before .before .before .passed-by .ensures,
+      c .before .before .before .before .before .hold-of2 .ensures,
+      c .before .before .before .before .before .before .record-of2 .ensures,
+      c .before .before .before .before .before .before .before .hold-of .ensures,
+      c .before .before .before .before .before .before .before .before .record-of .ensures,
       s .pre .old-is,
       put-index (s .args .z .receipts) (s .args .e .lot) (s .args .new) (s .pre .low),
     )
@@ -74,6 +72,5 @@ happen-at-spec =
     move-money-requires
     sub-k
     cast-k
-    mul-new
-    element-set-from-new
+    with-receipt-requires
     returns)

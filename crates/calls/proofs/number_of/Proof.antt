@@ -9,7 +9,7 @@ use Rattle.calls.proofs.number_of.Statement.{statement}
 use Rattle.calls.proofs.number_of.Tie as tie
 
 receipt-at-requires : tie.Need-receipt-at-requires
-receipt-at-requires c κs = search needs
+receipt-at-requires c κs = c .pre .0
 
 view-of-requires : tie.Need-view-of-requires
 view-of-requires c κs = search needs
@@ -17,7 +17,7 @@ view-of-requires c κs = search needs
 step-at-requires : tie.Need-step-at-requires
 unfolding viewOf
 step-at-requires c κs =
-    let s = c .before .before .before in
+    let s = c .before .before in
     let z = s .args .z in
     let G : Good z = good-of z (s .pre .0) (s .pre .1) in
     rw (c .view-of .ensures, c .before .receipt-at .ensures)

@@ -14,7 +14,7 @@ no-receipt-requires c κs = search needs
 
 returns : tie.Need-returns
 unfolding receiptAt
-returns c = c .no-receipt .ensures ∙ sym (nth-nobody _ (c .before .before .args .t1) (c .before .before .args .n) (c .before .if1 .taken))
+returns c = c .no-receipt .ensures ∙ sym (nth-nobody _ (c .before .before .args .t1 .receipts) (c .before .before .args .n) (c .before .if1 .taken))
 
 no-receipt-requires-2 : tie.Need-no-receipt-requires-2
 no-receipt-requires-2 c κs = search needs
@@ -23,8 +23,8 @@ returns-2 : tie.Need-returns-2
 unfolding receiptAt
 returns-2 c =
     let s = c .before .before .before in
-    let e : length (s .args .t1) ≡ 128 = search needs in
-    c .no-receipt2 .ensures ∙ sym (nth-past _ (s .args .t1) (s .args .n) (omega arith))
+    let e : length (s .args .t1 .receipts) ≡ 128 = s .pre .receipts in
+    c .no-receipt2 .ensures ∙ sym (nth-past _ (s .args .t1 .receipts) (s .args .n) (omega arith))
 
 sub-k : tie.Need-sub-k
 sub-k c = search needs
@@ -35,14 +35,14 @@ cast-k c = search needs
 mul-result : tie.Need-mul-result
 mul-result c = search needs
 
-array-copy-out-result : tie.Need-array-copy-out-result
-array-copy-out-result c = search needs
+element-copy-out-result : tie.Need-element-copy-out-result
+element-copy-out-result c = search needs
 
 returns-3 : tie.Need-returns-3
 unfolding receiptAt
 returns-3 c =
     let s = c .before .before .before in
-    sym (nth-index _ (s .args .t1) (s .args .n) (omega arith))
+    sym (nth-index _ (s .args .t1 .receipts) (s .args .n) (omega arith))
 
 pub receipt-at-spec : {M : Type 1} → statement M
 receipt-at-spec =
@@ -55,5 +55,5 @@ receipt-at-spec =
     sub-k
     cast-k
     mul-result
-    array-copy-out-result
+    element-copy-out-result
     returns-3)

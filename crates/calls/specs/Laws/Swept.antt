@@ -7,19 +7,27 @@ use native.Mathlib.Numerals.{add-one}
 use native.Mathlib.Omega.{arith}
 use lib.ListN.{length, set, replicate, length-append}
 use lib.Seq.{set-append-seam}
+use Rattle.zone.specs.declared.Receipt.{Receipt}
 use Rattle.zone.specs.declared.Zone.{Zone}
 use Rattle.rules.specs.declared.Call.{Call}
 use Rattle.rules.specs.declared.Entry.{Entry}
 use Rattle.rules.specs.declared.Step.{Step}
 use Rattle.rules.specs.declared.Step.the-variants.{Refused, NoEvent, Event}
 use Rattle.rules.specs.Effects.{ruleAt}
-use Rattle.rules.specs.Events.{Done, after, sweep}
+use Rattle.rules.specs.Events.{Done, happen, after, sweep}
 use Rattle.rules.specs.Laws.Chain.{Visit, swept, Path}
 use Rattle.rules.specs.Laws.Good.{Good}
 use Rattle.rules.specs.Laws.Links.{after-good}
+use Rattle.rules.specs.View.{receiptAt}
 use Rattle.calls.specs.declared.Swept.{Swept}
-use Rattle.calls.specs.Laws.Visits.{Visits}
-use Rattle.calls.specs.Listed.{noEntry, recorded, sweptOf}
+use Rattle.calls.specs.Laws.Visits.{Visits, Happens, visit-happens}
+use Rattle.calls.specs.Listed.{noEntry, sweptOf}
+
+-- what the code has after one step more
+abbrev pub recorded : Swept → Step → Swept
+recorded s (Refused n) = s
+recorded s NoEvent = s
+recorded s (Event e r) = record { zone = happen (s .zone) e r; count = s .count + 1; entries = set (s .entries) (s .count) e }
 
 -- what the lots so far did, and one step more
 abbrev pub further : Done → Step → Done
@@ -104,22 +112,35 @@ module _ (c : Call) (z : Zone) (first more : ℕ) (G : Good z) (p : Path c z 1 f
 
   -- the lots so far left s
   module _ (i : ℕ) (h : i < more) (s : Swept) (e : s ≡ sweptOf (sweep (ruleAt c) i first z)) where
-    pub visits-at : Visits s c (first + i)
+    good-here : Good (s .zone)
     unfolding sweptOf
-    visits-at =
+    good-here = rw e (good-at i (omega arith))
+
+    why-here : Visit c (s .zone) (first + i)
+    unfolding sweptOf
+    why-here = rw e (visit-at i h)
+
+    -- the entry has room
+    pub room : s .count < 128
+    unfolding sweptOf
+    room = rw e (omega (arith, sweep-few (ruleAt c) i first z, p .low (omega arith), p .high (omega arith)))
+
+    pub visits-at : (r : Receipt) → r ≡ receiptAt (s .zone .receipts) (first + i) → Visits (s .zone) c (first + i) r
+    visits-at r q = record { good = good-here; why = why-here; is = q }
+
+    pub happens-at : (r : Receipt) (e : Entry) (new : Receipt) → r ≡ receiptAt (s .zone .receipts) (first + i)
+        → ruleAt c (s .zone) (first + i) ≡ Event e new → Happens (s .zone) e r new
+    happens-at r e new q t =
         let low : 0 < first + i = omega (arith, p .low (omega arith)) in
         let high : first + i ≤ 128 = omega (arith, p .high (omega arith)) in
-        rw e (record {
-          good = good-at i (omega arith);
-          low = low;
-          high = high;
-          why = visit-at i h;
-          room = omega (arith, sweep-few (ruleAt c) i first z, p .low (omega arith));
-        })
+        rw q (visit-happens good-here low high why-here t)
 
-    pub next-at : recorded s (ruleAt c (s .zone) (first + i)) ≡ sweptOf (sweep (ruleAt c) (i + 1) first z)
-    unfolding sweptOf
-    next-at =
-        let d = sweep (ruleAt c) i first z in
-        let few : length (d .entries) < 128 = rw e at (visits-at .room) in
-        rw (e, add-one i, sweep-more (ruleAt c) i first (first + i) z refl) (recorded-more d (ruleAt c (d .zone) (first + i)) few)
+    -- the step at the next lot
+    module _ (step : Step) (q : ruleAt c (s .zone) (first + i) ≡ step) where
+      pub next-at : recorded s step ≡ sweptOf (sweep (ruleAt c) (i + 1) first z)
+      unfolding sweptOf
+      next-at =
+          let d = sweep (ruleAt c) i first z in
+          let few : length (d .entries) < 128 = rw e at room in
+          ap (recorded s) (sym q)
+          ∙ rw (e, add-one i, sweep-more (ruleAt c) i first (first + i) z refl) (recorded-more d (ruleAt c (d .zone) (first + i)) few)

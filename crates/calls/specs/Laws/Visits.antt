@@ -21,17 +21,14 @@ use Rattle.rules.specs.Laws.Ready.{ready-call}
 use Rattle.rules.specs.Ready.{ReadyCall}
 use Rattle.rules.specs.Tables.{among}
 use Rattle.rules.specs.View.{receiptAt}
-use Rattle.calls.specs.declared.Swept.{Swept}
 
 -- ── What the code asks of its callers ──────────────────────────────────────────────────────────
 
--- at a lot, with the zone and the entries so far
-pub record Visits (s : Swept) (c : Call) (n : ℕ) : Type 0 where
-  pub good : Good (s .zone)
-  pub low : 1 ≤ n
-  pub high : n ≤ 128
-  pub why : Visit c (s .zone) n
-  pub room : s .count < 128
+-- at a lot
+pub record Visits (z : Zone) (c : Call) (n : ℕ) (r : Receipt) : Type 0 where
+  pub good : Good z
+  pub why : Visit c z n
+  pub is : r ≡ receiptAt (z .receipts) n
 
 -- at an event
 pub record Happens (z : Zone) (e : Entry) (old new : Receipt) : Type 0 where
