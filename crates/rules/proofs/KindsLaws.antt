@@ -20,8 +20,7 @@ use Rattle.zone.specs.Valid.{recordValid}
 use Rattle.rules.specs.declared.Call.{Call}
 use Rattle.rules.specs.declared.Step.the-variants.{NoEvent}
 use Rattle.rules.specs.declared.View.{View}
-use Rattle.rules.specs.Effects.{noRule, ruleOf, closeLot}
-use Rattle.rules.specs.Ready.{closeLodged, closeStruck, closePenalty}
+use Rattle.rules.specs.Effects.{noRule, ruleOf, closeLot, closeLodged, closeStruck, closePenalty}
 use Rattle.rules.specs.Tables.{among}
 
 -- bounds of a valid record, which is the record of a receipt

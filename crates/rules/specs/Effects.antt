@@ -46,6 +46,10 @@ goesOn n r lot outcome number =
     let f = recordOf r in
     Event (entryOf n outcome (f .seller) (f .buyer) number) (becomes r lot)
 
+-- the lot of record f ends
+abbrev pub endsIdle : ℕ → Receipt → Record → ℕ → ℕ → Step
+endsIdle n r f outcome number = Event (entryOf n outcome (f .seller) (f .buyer) number) (becomes r Idle)
+
 -- ── Bids ───────────────────────────────────────────────────────────────────────────────────────
 
 -- "Due day is day + D, but day + 1 if struck in an afternoon with D 0."
@@ -114,21 +118,29 @@ lodge v c n r = goesOn n r (Lodged (tradeOf (recordOf r))) 7 0
 abbrev pub hasMoney : View → Record → Bool
 hasMoney v f = leb (full f .0) (v .buyer .0 + deposit .0)
 
--- "11. Morning close: .. each lot of state 3, 4 or 7 with due ≤ day."
 -- "State 4 with money: owner becomes the buyer, full is frozen in place of the deposit, state 5 (outcome 8). State 4 without: deposit
--- passes to the seller, idle (12). State 3 with money: deposit freed, state 7, due day + 1 (13). State 3 without: deposit freed, idle
--- (14). State 7: the smaller of seller's free and the penalty passes to the buyer, idle (15)." (articles 15, 20 and 21)
+-- passes to the seller, idle (12)." (articles 15 and 20)
+abbrev pub closeLodged : View → ℕ → Receipt → Record → Step
+closeLodged v n r f =
+    let bought : Receipt = record { owner = f .buyer; weight = r .weight; lot = Settled (tradeOf f) } in
+    cond (hasMoney v f) (Event (entryOf n 8 (f .seller) (f .buyer) (full f .0)) bought) (endsIdle n r f 12 (deposit .0))
+
+-- "State 3 with money: deposit freed, state 7, due day + 1 (13). State 3 without: deposit freed, idle (14)." (article 20)
+abbrev pub closeStruck : View → ℕ → Receipt → Record → Step
+closeStruck v n r f =
+    let owing : Receipt = becomes r (PenaltyDue (f .seller) (f .buyer) (v .day + 1)) in
+    cond (hasMoney v f) (Event (entryOf n 13 (f .seller) (f .buyer) 0) owing) (endsIdle n r f 14 0)
+
+-- "State 7: the smaller of seller's free and the penalty passes to the buyer, idle (15)." (article 21)
+abbrev pub closePenalty : View → ℕ → Receipt → Record → Step
+closePenalty v n r f = endsIdle n r f 15 (penaltyPassed (v .seller) .0)
+
+-- "11. Morning close: .. each lot of state 3, 4 or 7 with due ≤ day."
 unfoldable pub closeLot : View → Call → ℕ → Receipt → Step
 closeLot v c n r =
     let f = recordOf r in
-    let money : Bool = hasMoney v f in
-    let bought : Receipt = record { owner = f .buyer; weight = r .weight; lot = Settled (tradeOf f) } in
     cond (among (f .state) (3 ∷ 4 ∷ 7 ∷ []) && leb (f .due) (v .day))
-    (row (f .state) NoEvent
-    ((4 ∷ [], cond money (Event (entryOf n 8 (f .seller) (f .buyer) (full f .0)) bought) (goesOn n r Idle 12 (deposit .0)))
-    ∷ (3 ∷ [], cond money (goesOn n r (PenaltyDue (f .seller) (f .buyer) (v .day + 1)) 13 0) (goesOn n r Idle 14 0))
-    ∷ (7 ∷ [], goesOn n r Idle 15 (penaltyPassed (v .seller) .0))
-    ∷ []))
+    (row (f .state) NoEvent ((4 ∷ [], closeLodged v n r f) ∷ (3 ∷ [], closeStruck v n r f) ∷ (7 ∷ [], closePenalty v n r f) ∷ []))
     NoEvent
 
 -- "12. First payment (account, receipt): state 5 to 6, by the seller." The number is the fen paid. (article 16)
@@ -143,15 +155,20 @@ sendInvoice v c n r =
     let f = recordOf r in
     goesOn n r (FirstPaid (tradeOf f) (record { pending = fen (c .amount); confirmed = f .confirmed; paid = f .paid })) 10 (c .amount)
 
+-- the lot after a confirmation that pays `part`: at full, idle; else the invoice is confirmed and its part paid
+abbrev pub confirmedLot : Record → Fen → Fen → Lot
+confirmedLot f all part =
+    let confirmed : ℕ = f .confirmed .0 + f .pending .0 in
+    cond (eqb confirmed (all .0)) Idle
+    (FirstPaid (tradeOf f) (record { pending = fen 0; confirmed = fen confirmed; paid = fen (f .paid .0 + part .0) }))
+
 -- "14. Confirm (account, receipt): state 6, something pending, by the buyer; pays; at full, idle." The number is the fen paid.
 -- (article 17)
 unfoldable pub confirm : View → Call → ℕ → Receipt → Step
 confirm v c n r =
     let f = recordOf r in
     let part : Fen = partPayment (full f) (f .confirmed) (f .paid) (f .pending) in
-    let confirmed : ℕ = f .confirmed .0 + f .pending .0 in
-    let going : Lot = FirstPaid (tradeOf f) (record { pending = fen 0; confirmed = fen confirmed; paid = fen (f .paid .0 + part .0) }) in
-    goesOn n r (cond (eqb confirmed (full f .0)) Idle going) 11 (part .0)
+    goesOn n r (confirmedLot f (full f) part) 11 (part .0)
 
 -- "15. Day close: states 1, 2 to idle, deposits freed" (article 12)
 unfoldable pub dayCloseLot : View → Call → ℕ → Receipt → Step
@@ -221,9 +238,9 @@ lotCount c = row (c .kind) 1 ((1 ∷ 2 ∷ [], 0) ∷ (9 ∷ 11 ∷ 15 ∷ [], 1
 unfoldable pub ending : Call → Zone → Zone
 ending c z =
     let asIs : Zone → Zone = λ z. z in
-    let noon : Zone → Zone = λ z. withClock z (z .day) true in
-    let night : Zone → Zone = λ z. withClock (withAsks z (replicate 8 (record { 0 = 0 }))) (z .day + 1) false in
-    row (c .kind) asIs ((11 ∷ [], noon) ∷ (15 ∷ [], night) ∷ []) z
+    let toAfternoon : Zone → Zone = λ z. withClock z (z .day) true in
+    let toNextDay : Zone → Zone = λ z. withClock (withAsks z (replicate 8 (record { 0 = 0 }))) (z .day + 1) false in
+    row (c .kind) asIs ((11 ∷ [], toAfternoon) ∷ (15 ∷ [], toNextDay) ∷ []) z
 
 -- "Closes list lots ascending."
 unfoldable pub effect : Zone → Call → Done

@@ -11,12 +11,6 @@ use crate::View;
 use units::YuanPerTonne;
 use zone::Record;
 
-fn is_account(n: u8) -> bool
-    ensures { λ r. ⌜ r ≡ isAccount n ⌝ }
-{
-    (1 <= n) & (n <= 96)
-}
-
 fn is_receipt(n: u8) -> bool
     ensures { λ r. ⌜ r ≡ within 1 128 n ⌝ }
 {
@@ -27,12 +21,6 @@ fn is_contract(n: u8) -> bool
     ensures { λ r. ⌜ r ≡ within 1 8 n ⌝ }
 {
     (1 <= n) & (n <= 8)
-}
-
-fn is_zero(x: i32) -> bool
-    ensures { λ r. ⌜ r ≡ isZero x ⌝ }
-{
-    (0 <= x) & (x <= 0)
 }
 
 // ── The fields in a kind's brackets ─────────────────────────────────────────────────────────────
@@ -71,7 +59,7 @@ fn unused_zero(c: Call) -> bool
         & (uses_contract(kind) | (c.contract == 0))
         & ((kind == 4) | (c.days == 0))
         & (uses_amount(kind) | (c.amount == 0))
-        & ((kind == 4) | is_zero(c.basis))
+        & ((kind == 4) | zone::is_zero(c.basis))
         & ((kind == 3) | (c.weight == 0))
         & (c.spare == 0)
 }
@@ -83,7 +71,7 @@ fn in_range(c: Call) -> bool
     let kind = c.kind;
     let amount = c.amount;
     let price = units::is_price(amount);
-    (!uses_account(kind) | is_account(c.account))
+    (!uses_account(kind) | zone::is_account(c.account))
         & (!uses_receipt(kind) | is_receipt(c.receipt))
         & (!uses_contract(kind) | is_contract(c.contract))
         & ((kind != 4) | (c.days <= 3))

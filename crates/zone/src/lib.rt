@@ -147,7 +147,7 @@ fn flat_record(
     }
 }
 
-// A trade in a state that has no invoices yet.
+// A trade and its invoices, in one of the states 3 to 6.
 fn trade_record(owner: u8, weight: Kilograms, state: u8, t: Trade, i: Invoices) -> Record
     ensures { λ r. ⌜ r ≡ flatRecord owner weight state (t .listing) (t .bid) (t .due) i ⌝ }
 {
@@ -259,13 +259,13 @@ pub fn receipt_of(r: Record) -> Receipt
 
 // ── When a record is valid ──────────────────────────────────────────────────────────────────────
 
-fn is_account(n: u8) -> bool
+pub fn is_account(n: u8) -> bool
     ensures { λ r. ⌜ r ≡ isAccount n ⌝ }
 {
     (1 <= n) & (n <= 96)
 }
 
-fn is_zero(x: i32) -> bool
+pub fn is_zero(x: i32) -> bool
     ensures { λ r. ⌜ r ≡ isZero x ⌝ }
 {
     (0 <= x) & (x <= 0)

@@ -17,10 +17,9 @@ use Rattle.rules.specs.declared.Entry.{Entry}
 use Rattle.rules.specs.declared.Step.{Step}
 use Rattle.rules.specs.declared.Step.the-variants.{Refused, NoEvent, Event}
 use Rattle.rules.specs.declared.View.{View}
-use Rattle.rules.specs.Effects.{entryOf, becomes, goesOn, bidStands, bidStruck, meetsAsk, hasMoney, register, listFor, withdrawListing, limitBid, marketBid, withdrawBid, quoteLot, lodge, closeLot, payFirst, sendInvoice, confirm, dayCloseLot, noRule, ruleTable, ruleOf}
+use Rattle.rules.specs.Effects.{entryOf, becomes, goesOn, bidStands, bidStruck, meetsAsk, hasMoney, register, listFor, withdrawListing, limitBid, marketBid, withdrawBid, quoteLot, lodge, closeLot, payFirst, sendInvoice, confirm, dayCloseLot, noRule, ruleTable, ruleOf, closeLodged, closeStruck, closePenalty}
 use Rattle.rules.specs.Numbers.{number}
 use Rattle.rules.specs.Outcome.{stepNumber, stepAt}
-use Rattle.rules.specs.Ready.{closeLodged, closeStruck, closePenalty}
 use Rattle.rules.specs.Tables.{among, row}
 
 -- what holds of each entry of a table and of its default holds of what is read
