@@ -1,6 +1,9 @@
 // The zone's values: accounts, receipts and the lots on them. A lot is the sale of one receipt and has its number.
 ghost use mathlib.Core.Path.{_≡_};
-ghost use mathlib.Core.Bool.{true};
+ghost use mathlib.Core.Bool.{true, not, _&&_};
+ghost use lib.Dec.{eqb, leb};
+ghost use Rattle.units.specs.Payments.{payable};
+ghost use Rattle.units.specs.Ranges.{within, isPrice, isBasis};
 ghost use Prim.Native.Nat.{_≤_};
 ghost use Rattle.zone.specs.Record.{recordOf, flatRecord, receiptOf, noListing, noBid, noInvoices, listingOf, bidOf, tradeOf, invoicesOf};
 ghost use Rattle.zone.specs.Held.{full, holdOf};
@@ -289,47 +292,75 @@ fn is_blank(r: Record) -> bool
         & is_zero(r.basis.0)
 }
 
-fn listing_ok(r: Record) -> bool
-    ensures { λ x. ⌜ x ≡ listingOk r ⌝ }
+// Seller, contract, D and basis of a listing.
+fn listing_in(r: Record) -> bool
+    ensures { λ x. ⌜ x ≡ isAccount (r .seller) && within 1 8 (r .contract) && leb (r .days) 3 && isBasis (r .basis .0) ⌝ }
 {
-    let s = r.state;
-    let sold = (1 <= s) & (s <= 7);
-    let listed = (1 <= s) & (s <= 6);
     let basis = r.basis.0;
-    (sold & is_account(r.seller) | !sold & (r.seller == 0))
-        & (listed & ((1 <= r.contract) & (r.contract <= 8)) | !listed & (r.contract == 0))
-        & (listed & (r.days <= 3) | !listed & (r.days == 0))
-        & (listed & units::is_basis(basis) | !listed & is_zero(basis))
+    is_account(r.seller)
+        & ((1 <= r.contract) & (r.contract <= 8))
+        & (r.days <= 3)
+        & units::is_basis(basis)
 }
 
-fn bid_ok(r: Record) -> bool
-    ensures { λ x. ⌜ x ≡ bidOk r ⌝ }
+fn no_listing_in(r: Record) -> bool
+    ensures { λ x. ⌜ x ≡ eqb (r .contract) 0 && eqb (r .days) 0 && isZero (r .basis .0) ⌝ }
 {
-    let s = r.state;
-    let bid = (2 <= s) & (s <= 7);
-    let priced = (2 <= s) & (s <= 6);
+    let basis = r.basis.0;
+    (r.contract == 0) & (r.days == 0) & is_zero(basis)
+}
+
+// Buyer and price of a bid.
+fn bid_in(r: Record) -> bool
+    ensures { λ x. ⌜ x ≡ isAccount (r .buyer) && isPrice (r .price .0) && not (eqb (r .buyer) (r .seller)) && payable (r .price) (r .basis) ⌝ }
+{
     let price = r.price;
     let basis = r.basis;
-    (bid & is_account(r.buyer) | !bid & (r.buyer == 0))
-        & (priced & units::is_price(price.0 as u64) | !priced & (price.0 == 0))
-        & (!bid | !(r.buyer == r.seller))
-        & (!priced | units::is_payable(price, basis))
+    is_account(r.buyer)
+        & units::is_price(price.0 as u64)
+        & !(r.buyer == r.seller)
+        & units::is_payable(price, basis)
 }
 
-fn due_ok(r: Record) -> bool
-    ensures { λ x. ⌜ x ≡ dueOk r ⌝ }
+fn no_bid_in(r: Record) -> bool
+    ensures { λ x. ⌜ x ≡ eqb (r .buyer) 0 && eqb (r .price .0) 0 ⌝ }
 {
-    let struck = (3 <= r.state) & (r.state <= 7);
-    struck & ((1 <= r.due) & (r.due <= 30003)) | !struck & (r.due == 0)
+    (r.buyer == 0) & (r.price.0 == 0)
 }
 
-fn owner_ok(r: Record) -> bool
-    ensures { λ x. ⌜ x ≡ ownerOk r ⌝ }
+fn due_in(r: Record) -> bool
+    ensures { λ x. ⌜ x ≡ within 1 30003 (r .due) ⌝ }
+{
+    (1 <= r.due) & (r.due <= 30003)
+}
+
+// The buyer to whom a penalty is due; the trade's price is gone.
+fn buyer_in(r: Record) -> bool
+    ensures { λ x. ⌜ x ≡ isAccount (r .buyer) && eqb (r .price .0) 0 && not (eqb (r .buyer) (r .seller)) ⌝ }
+{
+    is_account(r.buyer) & (r.price.0 == 0) & !(r.buyer == r.seller)
+}
+
+// State by state: only the tests that the state asks for.
+fn state_ok(r: Record) -> bool
+    requires { ⌜ r .state ≤ 7 ⌝ }
+    ensures { λ x. ⌜ x ≡ listingOk r && bidOk r && dueOk r && ownerOk r ⌝ }
 {
     let s = r.state;
-    let unsettled = (1 <= s) & (s <= 4) | (s == 7);
-    let bought = (5 <= s) & (s <= 6);
-    (!unsettled | (r.owner == r.seller)) & (!bought | (r.owner == r.buyer))
+    match s {
+        0 => (r.seller == 0) & no_listing_in(r) & no_bid_in(r) & (r.due == 0),
+        1 => listing_in(r) & no_bid_in(r) & (r.due == 0) & (r.owner == r.seller),
+        2 => listing_in(r) & bid_in(r) & (r.due == 0) & (r.owner == r.seller),
+        3 | 4 => listing_in(r) & bid_in(r) & due_in(r) & (r.owner == r.seller),
+        5 | 6 => listing_in(r) & bid_in(r) & due_in(r) & (r.owner == r.buyer),
+        _ => {
+            is_account(r.seller)
+                & no_listing_in(r)
+                & buyer_in(r)
+                & due_in(r)
+                & (r.owner == r.seller)
+        }
+    }
 }
 
 fn no_invoices_ok(r: Record) -> bool
@@ -341,13 +372,10 @@ fn no_invoices_ok(r: Record) -> bool
 fn fields_ok(r: Record) -> bool
     ensures { λ x. ⌜ x ≡ fieldsOk r ⌝ }
 {
-    (r.state <= 7)
-        & is_account(r.owner)
-        & units::is_weight(r.weight.0)
-        & listing_ok(r)
-        & bid_ok(r)
-        & due_ok(r)
-        & owner_ok(r)
+    if !((r.state <= 7) & is_account(r.owner) & units::is_weight(r.weight.0)) {
+        return false;
+    }
+    state_ok(r)
 }
 
 pub fn full_of(r: Record) -> Fen

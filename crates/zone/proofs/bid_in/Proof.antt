@@ -1,7 +1,7 @@
-use Rattle.zone.specs.Valid.{bidOk}
+-- Each part is a test of its own.
 use borrow.Author.Needs.{needs}
-use Rattle.zone.proofs.bid_ok.Statement.{statement}
-use Rattle.zone.proofs.bid_ok.Tie as tie
+use Rattle.zone.proofs.bid_in.Statement.{statement}
+use Rattle.zone.proofs.bid_in.Tie as tie
 
 is-account-requires : tie.Need-is-account-requires
 is-account-requires c κs = search needs
@@ -16,10 +16,9 @@ is-payable-requires : tie.Need-is-payable-requires
 is-payable-requires c κs = search needs
 
 returns : tie.Need-returns
-unfolding bidOk
-returns c = rw (c .before .before .before .before .before .before .is-account .ensures, c .before .before .before .is-price .ensures, c .is-payable .ensures)
+returns c = rw (c .before .before .before .before .is-account .ensures, c .before .before .is-price .ensures, c .is-payable .ensures)
 
-pub bid-ok-spec : {M : Type 1} → statement M
-bid-ok-spec =
+pub bid-in-spec : {M : Type 1} → statement M
+bid-in-spec =
     tie.close
     (tie.spec is-account-requires cast-is-price is-price-requires is-payable-requires returns)
