@@ -4,6 +4,7 @@
  * The last line is 'N passed, M failed'; each call with its four statements counts once.
  */
 #include "../include/crz.h"
+#include "each_file.h"
 
 #include <stdio.h>
 #include <stdlib.h>
@@ -183,10 +184,5 @@ static void run(const char *path, unsigned long *passed, unsigned long *failed)
 
 int main(int argc, char **argv)
 {
-    unsigned long passed = 0, failed = 0;
-    int i;
-    for (i = 1; i < argc; i++)
-        run(argv[i], &passed, &failed);
-    printf("%lu passed, %lu failed\n", passed, failed);
-    return failed != 0;
+    return each_file(argc, argv, run);
 }
