@@ -113,7 +113,8 @@ history (a ∷ list) = feed (a .0) (a .1) (history list)
 -- ── What the table holds ───────────────────────────────────────────────────────────────────────
 
 -- "Per lot, by its last entry: 4, 6, 7 hold 5,000,000 from the buyer of its latest 4 or 6; 8 to 11 hold the latest 8's number, less
--- 9s and 11s since, from its buyer; others, or no entry, hold 0." What is held from account x.
+-- 9s and 11s since, from its buyer; others, or no entry, hold 0." What is held from account x. A first payment and part payments
+-- never pass the full one, so the difference never stops at 0.
 abbrev pub heldIn : ℕ → Past → ℕ
 heldIn x p =
     cond (oneOf (p .last) (4 ∷ 6 ∷ 7 ∷ [])) (of x (p .bidder) 5000000)

@@ -44,7 +44,8 @@ headerOf afternoon count total = 0 ∷ cond afternoon 1 0 ∷ leBytes 2 count ++
 unfoldable pub acceptedBytes : Zone → List Entry → List ℕ
 acceptedBytes z es = headerOf (z .afternoon) (length es) (z .total .0) ++ tableBytes entryBytes es
 
--- the bytes from byte 0 on, "zeros to byte 1,040. Bytes past 1,040 keep their content."
+-- the bytes from byte 0 on, "zeros to byte 1,040. Bytes past 1,040 keep their content." The bytes are at most 16 and 128 entries of 8,
+-- so the difference never stops at 0.
 unfoldable pub filled : List ℕ → List ℕ → List ℕ
 filled bytes old = bytes ++ replicate (answerLength - length bytes) 0 ++ drop answerLength old
 

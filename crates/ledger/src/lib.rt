@@ -1,4 +1,4 @@
-// A second ledger of the cotton receipt zone, for long runs beside the library. It is written from document 01 (docs/01-scope.md)
+// A second ledger of the cotton receipt zone, for long runs beside the library. It is written from document 01
 // alone and shares no code with the library.
 //
 // It is built another way on purpose. The zone is a book of columns of numbers. Of an account it keeps one number, its wealth: free and

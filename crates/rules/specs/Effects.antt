@@ -218,7 +218,8 @@ abbrev pub withClock : Zone → ℕ → Bool → Zone
 withClock z day afternoon =
     record { day = day; afternoon = afternoon; asks = z .asks; accounts = z .accounts; receipts = z .receipts; total = z .total }
 
--- "1. Pay in, 2. take out (account, amount): free and total change." Kind 9 "sets the ask".
+-- "1. Pay in, 2. take out (account, amount): free and total change." Kind 9 "sets the ask". Number 11 keeps what is taken out within
+-- the account's free money, and the total has all money in it, so the difference never stops at 0.
 unfoldable pub opening : Call → Zone → Zone
 opening c z =
     let asIs : Call → Zone → Zone = λ c z. z in
