@@ -125,7 +125,8 @@ fn count_entries(answer: &Buffer, tally: &mut Tally) {
     }
 }
 
-fn count(q: Request, number: u64, answer: &Buffer, tally: &mut Tally) {
+// Counts a call that was driven, with what it reached.
+pub fn count(q: Request, number: u64, answer: &Buffer, tally: &mut Tally) {
     add(tally, CALLS, 1);
     add(tally, plus(NUMBERS, number), 1);
     if number == 0 {
@@ -134,29 +135,39 @@ fn count(q: Request, number: u64, answer: &Buffer, tally: &mut Tally) {
     }
 }
 
-// The first differences are shown: which call of the run, its kind, and both numbers.
-fn show(tally: &mut Tally, kind: u64, of_library: u64, of_ledger: u64) {
+// ── The comparison ──────────────────────────────────────────────────────────────────────────────
+
+// Both numbers, and whether number, image and answer are as they must be.
+pub struct Verdict {
+    pub of_library: u64,
+    pub of_ledger: u64,
+    pub agree: bool,
+}
+
+// The first differences are shown: at which call, counted over all runs, its kind as the record has it, and both numbers.
+pub fn show(tally: &mut Tally, place: &[u8], q: Request, v: Verdict) {
     add(tally, DIFFERENCES, 1);
     if counted(tally, DIFFERENCES) <= 5 {
-        io::write_all(1, b"difference at call ");
+        io::write_all(1, b"difference at ");
+        io::write_all(1, place);
         io::print_decimal(1, counted(tally, CALLS));
         io::write_all(1, b", kind ");
-        io::print_decimal(1, kind);
+        io::print_decimal(1, q.kind % 256);
         io::write_all(1, b": library ");
-        io::print_decimal(1, of_library);
+        io::print_decimal(1, v.of_library);
         io::write_all(1, b", ledger ");
-        io::print_decimal(1, of_ledger);
+        io::print_decimal(1, v.of_ledger);
         io::write_all(1, b"\n");
     }
 }
 
-// Makes the call on both sides and compares; the library's number. After a difference the ledger goes on with the library's image.
-pub fn drive(q: Request, image: &mut Buffer, second: &mut Buffer, tally: &mut Tally) -> u64 {
+// Makes the call on both sides and compares; the answer is the library's. After a difference the ledger goes on with the library's image.
+pub fn drive(q: Request, image: &mut Buffer, second: &mut Buffer, answer: &mut Buffer) -> Verdict {
     let before: Buffer = *image;
     let mut ours: Buffer = sized(*image);
     let mut theirs: Buffer = sized(*second);
     let record: Buffer = record_of(q);
-    let mut answer: Buffer = filled();
+    let mut reply: Buffer = filled();
     let mut other: Buffer = filled();
     let image_length = q.image_length as usize;
     let call_length = q.call_length as usize;
@@ -166,7 +177,7 @@ pub fn drive(q: Request, image: &mut Buffer, second: &mut Buffer, tally: &mut Ta
         image_length,
         &record,
         call_length,
-        &mut answer,
+        &mut reply,
         answer_length,
     );
     let of_ledger = call_ledger(
@@ -177,13 +188,19 @@ pub fn drive(q: Request, image: &mut Buffer, second: &mut Buffer, tally: &mut Ta
         &mut other,
         answer_length,
     );
-    count(q, number, &answer, tally);
-    let agree = (number == of_ledger) & same(&ours, &theirs) & same(&answer, &other);
+    let agree = (number == of_ledger)
+        & same(&ours, &theirs)
+        & same(&reply, &other)
+        & left_alone(number, &before, &ours, &reply);
     *image = ours;
+    *answer = reply;
     *second = theirs;
-    if !(agree & left_alone(number, &before, &ours, &answer)) {
-        show(tally, q.kind, number, of_ledger);
+    if !agree {
         *second = ours;
     }
-    number
+    Verdict {
+        of_library: number,
+        of_ledger: of_ledger,
+        agree: agree,
+    }
 }

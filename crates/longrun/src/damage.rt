@@ -202,10 +202,18 @@ fn damage_header(seed: &mut u64, image: &mut Buffer) {
     displace(seed, image, spot, price);
 }
 
+// Mostly a lot in use, now and then any, so that a receipt that is not registered gets a field too.
+fn some_lot(seed: &mut u64, plan: Plan) -> u64 {
+    if percent(seed, 20) {
+        return between(seed, 1, 128);
+    }
+    between(seed, 1, plan.receipts)
+}
+
 // Puts one field out of place; the lot whose field it is, or the one that the next call may go to.
 pub fn damage(seed: &mut u64, image: &mut Buffer, plan: Plan) -> u64 {
     let draw = below(seed, 100);
-    let lot = between(seed, 1, plan.receipts);
+    let lot = some_lot(seed, plan);
     if draw < 60 {
         damage_receipt(seed, image, lot);
         return lot;

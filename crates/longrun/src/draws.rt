@@ -10,7 +10,7 @@ fn next(seed: &mut u64) -> u64 {
     x
 }
 
-// Any 64 bits: two steps, of which the second alone would show its neighbours' low bits.
+// Any 64 bits, put together from two steps.
 pub fn word(seed: &mut u64) -> u64 {
     let high = next(seed);
     plus(high << 32, next(seed) >> 13)

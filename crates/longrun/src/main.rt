@@ -7,6 +7,7 @@ mod buffers;
 mod compare;
 mod damage;
 mod draws;
+mod fresh;
 mod requests;
 mod rows;
 mod runs;
@@ -24,8 +25,8 @@ fn plan(seed: u64, calls: u64, receipts: u64, accounts: u64, closes: u64) -> Pla
         accounts: accounts,
         closes: closes,
         day: 1,
-        full_treasury: false,
-        full_book: false,
+        up_to_limit: false,
+        full_answers: false,
     }
 }
 
@@ -36,13 +37,14 @@ fn small_zones(tally: &mut Tally) {
     runs::run(plan(2685821657736338717, 18000, 8, 3, 60), tally);
 }
 
-// All receipts and accounts in use, so that answers are long.
-fn full_books(tally: &mut Tally) {
+// All 128 lots go through closes and a quote first, so that answers are full. The calls after that draw from all receipts and
+// accounts in one run, from half and a quarter of them in the other.
+fn long_answers(tally: &mut Tally) {
     let mut all = plan(10140107109312335319, 12000, 128, 96, 12);
-    all.full_book = true;
+    all.full_answers = true;
     runs::run(all, tally);
     let mut half = plan(6364136223846793005, 12000, 64, 24, 20);
-    half.full_book = true;
+    half.full_answers = true;
     runs::run(half, tally);
 }
 
@@ -50,14 +52,15 @@ fn full_books(tally: &mut Tally) {
 fn last_days(tally: &mut Tally) {
     let mut late = plan(12605985483714917081, 12000, 24, 6, 40);
     late.day = 29850;
-    late.full_treasury = true;
+    late.up_to_limit = true;
     runs::run(late, tally);
 }
 
 fn main() {
     let mut tally: Tally = [0; 64];
+    fresh::all_lengths(&mut tally);
     small_zones(&mut tally);
-    full_books(&mut tally);
+    long_answers(&mut tally);
     last_days(&mut tally);
     rows::print_all(&tally);
 }

@@ -49,8 +49,8 @@ pub struct Plan {
     pub accounts: u64,
     pub closes: u64,
     pub day: u64,
-    pub full_treasury: bool,
-    pub full_book: bool,
+    pub up_to_limit: bool,
+    pub full_answers: bool,
 }
 
 // A call by its fields, with the lengths of the buffers that it lends.
@@ -69,7 +69,7 @@ pub struct Request {
     pub answer_length: u64,
 }
 
-pub fn ask_for(kind: u64, account: u64, receipt: u64, amount: u64) -> Request {
+pub fn request_of(kind: u64, account: u64, receipt: u64, amount: u64) -> Request {
     Request {
         kind: kind,
         account: account,
@@ -130,9 +130,13 @@ fn party(seed: &mut u64, plan: Plan, account: u64) -> u64 {
     account
 }
 
+// Any of the eight, but mostly one of a few, so that quotes meet bids.
 fn some_contract(seed: &mut u64) -> u64 {
     if percent(seed, 20) {
         return CHEAP_CONTRACT;
+    }
+    if percent(seed, 25) {
+        return between(seed, 1, 7);
     }
     between(seed, 1, 3)
 }
@@ -182,15 +186,15 @@ fn some_weight(seed: &mut u64) -> u64 {
 
 // ── Money ───────────────────────────────────────────────────────────────────────────────────────
 
-// Every third account is rich, the others often lack the full payment. A full treasury takes large sums, to meet its limit.
+// Every third account is rich, the others often lack the full payment. A zone at its limit is offered large sums, which pass it.
 fn pay_in(seed: &mut u64, plan: Plan, account: u64) -> Request {
-    if plan.full_treasury & percent(seed, 90) {
-        return ask_for(1, account, 0, MOST_AMOUNT);
+    if plan.up_to_limit & percent(seed, 90) {
+        return request_of(1, account, 0, MOST_AMOUNT);
     }
     if account % 3 == 1 {
-        return ask_for(1, account, 0, between(seed, 1, 2000000000));
+        return request_of(1, account, 0, between(seed, 1, 2000000000));
     }
-    ask_for(1, account, 0, between(seed, 1, 40000000))
+    request_of(1, account, 0, between(seed, 1, 40000000))
 }
 
 // All of the free money, or a part of it, or up to two fen more.
@@ -202,30 +206,30 @@ fn take_out(seed: &mut u64, image: &Buffer, account: u64) -> Request {
     if (amount == 0) | (amount > MOST_AMOUNT) {
         amount = MOST_AMOUNT;
     }
-    ask_for(2, account, 0, amount)
+    request_of(2, account, 0, amount)
 }
 
-// Brings the free money that the next close tests to its limit, or one fen beside it.
+// Brings the free money that a bid or the next close tests to its limit, or one fen beside it.
 fn meet_limit(seed: &mut u64, image: &Buffer, account: u64, limit: u64) -> Request {
     let wanted = minus(plus(limit, below(seed, 3)), 1);
     let free = free_of(image, account);
     if free < wanted {
-        return ask_for(1, account, 0, minus(wanted, free));
+        return request_of(1, account, 0, minus(wanted, free));
     }
-    ask_for(2, account, 0, minus(free, wanted))
+    request_of(2, account, 0, minus(free, wanted))
 }
 
 // ── Receipts and listings ───────────────────────────────────────────────────────────────────────
 
 fn register(seed: &mut u64, plan: Plan, lot: u64) -> Request {
-    let mut q = ask_for(3, some_account(seed, plan), lot, 0);
+    let mut q = request_of(3, some_account(seed, plan), lot, 0);
     q.weight = some_weight(seed);
     q
 }
 
 fn list(seed: &mut u64, plan: Plan, image: &Buffer, lot: u64) -> Request {
     let owner = party_of(image, lot, OWNER);
-    let mut q = ask_for(4, party(seed, plan, owner), lot, 0);
+    let mut q = request_of(4, party(seed, plan, owner), lot, 0);
     let contract = some_contract(seed);
     q.contract = contract;
     q.days = below(seed, 4);
@@ -261,31 +265,32 @@ fn bidder(seed: &mut u64, plan: Plan, buyer: u64) -> u64 {
     some_account(seed, plan)
 }
 
+// A limit bid, or the money for one: now and then the bidder's free money comes to the deposit first, or one fen beside it.
+fn bid(seed: &mut u64, plan: Plan, image: &Buffer, lot: u64) -> Request {
+    let account = bidder(seed, plan, party_of(image, lot, BUYER));
+    if percent(seed, 8) {
+        return meet_limit(seed, image, account, DEPOSIT);
+    }
+    request_of(6, account, lot, bid_price(seed, image, lot))
+}
+
 fn bid_or_withdraw(seed: &mut u64, plan: Plan, image: &Buffer, lot: u64) -> Request {
     let buyer = party_of(image, lot, BUYER);
     let seller = party_of(image, lot, SELLER);
     let draw = below(seed, 100);
     if draw < 65 {
-        let account = bidder(seed, plan, buyer);
-        return ask_for(6, account, lot, bid_price(seed, image, lot));
+        return bid(seed, plan, image, lot);
     }
     if draw < 80 {
-        return ask_for(7, bidder(seed, plan, buyer), lot, 0);
+        return request_of(7, bidder(seed, plan, buyer), lot, 0);
     }
     if draw < 90 {
-        return ask_for(8, party(seed, plan, buyer), lot, 0);
+        return request_of(8, party(seed, plan, buyer), lot, 0);
     }
-    ask_for(5, party(seed, plan, seller), lot, 0)
+    request_of(5, party(seed, plan, seller), lot, 0)
 }
 
 // ── Delivery and payment ────────────────────────────────────────────────────────────────────────
-
-fn lodge_or_bid(seed: &mut u64, plan: Plan, image: &Buffer, lot: u64) -> Request {
-    if percent(seed, 40) {
-        return ask_for(10, party(seed, plan, party_of(image, lot, SELLER)), lot, 0);
-    }
-    bid_or_withdraw(seed, plan, image, lot)
-}
 
 // Invoices in parts, the last one exact, now and then one or two fen over.
 fn invoice_amount(seed: &mut u64, left: u64) -> u64 {
@@ -313,14 +318,14 @@ fn confirms(seed: &mut u64, pending: bool) -> bool {
 fn invoice_or_confirm(seed: &mut u64, plan: Plan, image: &Buffer, lot: u64) -> Request {
     let pending = number_of(image, lot, PENDING) != 0;
     if confirms(seed, pending) {
-        return ask_for(14, party(seed, plan, party_of(image, lot, BUYER)), lot, 0);
+        return request_of(14, party(seed, plan, party_of(image, lot, BUYER)), lot, 0);
     }
     let left = minus(full_of(image, lot), number_of(image, lot, CONFIRMED));
     let account = party(seed, plan, party_of(image, lot, SELLER));
-    ask_for(13, account, lot, invoice_amount(seed, left))
+    request_of(13, account, lot, invoice_amount(seed, left))
 }
 
-// A lodged lot waits for the morning close, which asks for the buyer's money.
+// A lot waits for the morning close, which asks for the buyer's money.
 fn await_close(seed: &mut u64, plan: Plan, image: &Buffer, lot: u64) -> Request {
     let buyer = party_of(image, lot, BUYER);
     let full = full_of(image, lot);
@@ -332,6 +337,18 @@ fn await_close(seed: &mut u64, plan: Plan, image: &Buffer, lot: u64) -> Request 
         return meet_limit(seed, image, buyer, minus(full, DEPOSIT));
     }
     meet_limit(seed, image, buyer, 1)
+}
+
+// A struck lot is lodged, or waits unlodged for the close, which asks for the same money; or a bid comes too late.
+fn lodge_or_wait(seed: &mut u64, plan: Plan, image: &Buffer, lot: u64) -> Request {
+    let draw = below(seed, 100);
+    if draw < 40 {
+        return request_of(10, party(seed, plan, party_of(image, lot, SELLER)), lot, 0);
+    }
+    if draw < 70 {
+        return await_close(seed, plan, image, lot);
+    }
+    bid_or_withdraw(seed, plan, image, lot)
 }
 
 fn await_penalty(seed: &mut u64, plan: Plan, image: &Buffer, lot: u64) -> Request {
@@ -350,9 +367,9 @@ pub fn step_lot(seed: &mut u64, plan: Plan, image: &Buffer, lot: u64) -> Request
         0 => list_or_register(seed, plan, image, lot),
         1 => bid_or_withdraw(seed, plan, image, lot),
         2 => bid_or_withdraw(seed, plan, image, lot),
-        3 => lodge_or_bid(seed, plan, image, lot),
+        3 => lodge_or_wait(seed, plan, image, lot),
         4 => await_close(seed, plan, image, lot),
-        5 => ask_for(12, party(seed, plan, party_of(image, lot, SELLER)), lot, 0),
+        5 => request_of(12, party(seed, plan, party_of(image, lot, SELLER)), lot, 0),
         6 => invoice_or_confirm(seed, plan, image, lot),
         _ => await_penalty(seed, plan, image, lot),
     }
@@ -364,14 +381,14 @@ pub fn step_lot(seed: &mut u64, plan: Plan, image: &Buffer, lot: u64) -> Request
 pub fn close_phase(seed: &mut u64, image: &Buffer) -> Request {
     let morning = field(image, 20, 1) == 0;
     if morning != percent(seed, 5) {
-        return ask_for(11, 0, 0, 0);
+        return request_of(11, 0, 0, 0);
     }
-    ask_for(15, 0, 0, 0)
+    request_of(15, 0, 0, 0)
 }
 
 fn quote(seed: &mut u64) -> Request {
     let contract = some_contract(seed);
-    let mut q = ask_for(9, 0, 0, 0);
+    let mut q = request_of(9, 0, 0, 0);
     q.contract = contract;
     if percent(seed, 70) {
         q.amount = near_price(seed, contract);

@@ -2,6 +2,7 @@
 use crate::tally::CALLS;
 use crate::tally::DAMAGED;
 use crate::tally::DIFFERENCES;
+use crate::tally::FRESH;
 use crate::tally::KINDS;
 use crate::tally::MOST_ENTRIES;
 use crate::tally::NUMBERS;
@@ -42,6 +43,7 @@ pub fn print_all(tally: &Tally) {
     line(b"most entries in an answer: ", counted(tally, MOST_ENTRIES));
     line(b"damaged images refused by 2: ", counted(tally, DAMAGED));
     line(b"damaged images still valid: ", counted(tally, STILL_VALID));
+    line(b"buffers given to the fresh entry: ", counted(tally, FRESH));
     io::print_decimal(1, counted(tally, DIFFERENCES));
     io::write_all(1, b" differences\n");
 }

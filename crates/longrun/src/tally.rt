@@ -1,4 +1,4 @@
-// What a run has reached, counted: one row of numbers, with these places in it.
+// What all runs have reached, counted: one row of numbers, with these places in it.
 use ledger::plus;
 
 pub type Tally = [u64; 64];
@@ -19,6 +19,8 @@ pub const MOST_ENTRIES: u64 = 50;
 pub const DAMAGED: u64 = 51;
 
 pub const STILL_VALID: u64 = 52;
+// Buffers given to the fresh entry.
+pub const FRESH: u64 = 53;
 
 pub fn counted(tally: &Tally, place: u64) -> u64 {
     let k = place as usize;

@@ -12,8 +12,8 @@ abbrev μ-loop : tie.MeasureT-loop
 loop-holds : tie.Need-loop-holds Inv-loop μ-loop
 loop-holds c = search needs
 
-ask-for-requires : tie.Need-ask-for-requires Inv-loop μ-loop
-ask-for-requires c κs = search needs
+request-of-requires : tie.Need-request-of-requires Inv-loop μ-loop
+request-of-requires c κs = search needs
 
 make-requires : tie.Need-make-requires Inv-loop μ-loop
 make-requires c κs = search needs
@@ -27,8 +27,8 @@ product-requires c κs = search needs
 plus-requires-2 : tie.Need-plus-requires-2 Inv-loop μ-loop
 plus-requires-2 c κs = search needs
 
-ask-for-requires-2 : tie.Need-ask-for-requires-2 Inv-loop μ-loop
-ask-for-requires-2 c κs = search needs
+request-of-requires-2 : tie.Need-request-of-requires-2 Inv-loop μ-loop
+request-of-requires-2 c κs = search needs
 
 make-requires-2 : tie.Need-make-requires-2 Inv-loop μ-loop
 make-requires-2 c κs = search needs
@@ -52,12 +52,12 @@ bid-all-spec =
     Inv-loop
     μ-loop
     loop-holds
-    ask-for-requires
+    request-of-requires
     make-requires
     plus-requires
     product-requires
     plus-requires-2
-    ask-for-requires-2
+    request-of-requires-2
     make-requires-2
     add-lot
     loop-less

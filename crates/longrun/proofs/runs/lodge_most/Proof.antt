@@ -12,8 +12,8 @@ abbrev μ-loop : tie.MeasureT-loop
 loop-holds : tie.Need-loop-holds Inv-loop μ-loop
 loop-holds c = search needs
 
-ask-for-requires : tie.Need-ask-for-requires Inv-loop μ-loop
-ask-for-requires c κs = search needs
+request-of-requires : tie.Need-request-of-requires Inv-loop μ-loop
+request-of-requires c κs = search needs
 
 make-requires : tie.Need-make-requires Inv-loop μ-loop
 make-requires c κs = search needs
@@ -37,7 +37,7 @@ lodge-most-spec =
     Inv-loop
     μ-loop
     loop-holds
-    ask-for-requires
+    request-of-requires
     make-requires
     add-lot
     loop-less

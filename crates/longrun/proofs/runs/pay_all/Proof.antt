@@ -18,8 +18,8 @@ product-requires c κs = search needs
 plus-requires : tie.Need-plus-requires Inv-loop μ-loop
 plus-requires c κs = search needs
 
-ask-for-requires : tie.Need-ask-for-requires Inv-loop μ-loop
-ask-for-requires c κs = search needs
+request-of-requires : tie.Need-request-of-requires Inv-loop μ-loop
+request-of-requires c κs = search needs
 
 make-requires : tie.Need-make-requires Inv-loop μ-loop
 make-requires c κs = search needs
@@ -45,7 +45,7 @@ pay-all-spec =
     loop-holds
     product-requires
     plus-requires
-    ask-for-requires
+    request-of-requires
     make-requires
     add-account
     loop-less

@@ -12,8 +12,8 @@ abbrev μ-loop : tie.MeasureT-loop
 loop-holds : tie.Need-loop-holds Inv-loop μ-loop
 loop-holds c = search needs
 
-ask-for-requires : tie.Need-ask-for-requires Inv-loop μ-loop
-ask-for-requires c κs = search needs
+request-of-requires : tie.Need-request-of-requires Inv-loop μ-loop
+request-of-requires c κs = search needs
 
 plus-requires : tie.Need-plus-requires Inv-loop μ-loop
 plus-requires c κs = search needs
@@ -40,7 +40,7 @@ register-all-spec =
     Inv-loop
     μ-loop
     loop-holds
-    ask-for-requires
+    request-of-requires
     plus-requires
     make-requires
     add-lot

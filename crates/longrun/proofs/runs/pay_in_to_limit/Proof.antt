@@ -1,7 +1,7 @@
 use borrow.Author.Needs.{needs}
 use Prim.Native.Nat.{_≤_, _-_}
-use Rattle.longrun.proofs.runs.fill_treasury.Statement.{statement}
-use Rattle.longrun.proofs.runs.fill_treasury.Tie as tie
+use Rattle.longrun.proofs.runs.pay_in_to_limit.Statement.{statement}
+use Rattle.longrun.proofs.runs.pay_in_to_limit.Tie as tie
 
 abbrev Inv-loop : tie.InvT-loop
 Inv-loop image₀ second₀ tally₀ k₀ image second tally k = k ≤ 1001
@@ -15,8 +15,8 @@ loop-holds c = search needs
 plus-requires : tie.Need-plus-requires Inv-loop μ-loop
 plus-requires c κs = search needs
 
-ask-for-requires : tie.Need-ask-for-requires Inv-loop μ-loop
-ask-for-requires c κs = search needs
+request-of-requires : tie.Need-request-of-requires Inv-loop μ-loop
+request-of-requires c κs = search needs
 
 make-requires : tie.Need-make-requires Inv-loop μ-loop
 make-requires c κs = search needs
@@ -33,15 +33,15 @@ loop-again c = search needs
 returns : tie.Need-returns Inv-loop μ-loop
 returns c = search needs
 
-pub fill-treasury-spec : {M : Type 1} → statement M
-fill-treasury-spec =
+pub pay-in-to-limit-spec : {M : Type 1} → statement M
+pay-in-to-limit-spec =
     tie.close
     (tie.spec
     Inv-loop
     μ-loop
     loop-holds
     plus-requires
-    ask-for-requires
+    request-of-requires
     make-requires
     add-k
     loop-less

@@ -1,7 +1,7 @@
 use borrow.Author.Needs.{needs}
 use Prim.Native.Nat.{_≤_, _-_}
-use Rattle.longrun.proofs.runs.turns.Statement.{statement}
-use Rattle.longrun.proofs.runs.turns.Tie as tie
+use Rattle.longrun.proofs.runs.make_calls.Statement.{statement}
+use Rattle.longrun.proofs.runs.make_calls.Tie as tie
 
 abbrev Inv-loop : tie.InvT-loop
 Inv-loop plan image₀ second₀ tally₀ seed₀ calls k₀ image second tally seed k = k ≤ calls
@@ -12,8 +12,8 @@ abbrev μ-loop : tie.MeasureT-loop
 loop-holds : tie.Need-loop-holds Inv-loop μ-loop
 loop-holds c = search needs
 
-turn-requires : tie.Need-turn-requires Inv-loop μ-loop
-turn-requires c κs = search needs
+next-call-requires : tie.Need-next-call-requires Inv-loop μ-loop
+next-call-requires c κs = search needs
 
 add-k : tie.Need-add-k Inv-loop μ-loop
 add-k c = search needs
@@ -27,7 +27,7 @@ loop-again c = search needs
 returns : tie.Need-returns Inv-loop μ-loop
 returns c = search needs
 
-pub turns-spec : {M : Type 1} → statement M
-turns-spec =
+pub make-calls-spec : {M : Type 1} → statement M
+make-calls-spec =
     tie.close
-    (tie.spec Inv-loop μ-loop loop-holds turn-requires add-k loop-less loop-again returns)
+    (tie.spec Inv-loop μ-loop loop-holds next-call-requires add-k loop-less loop-again returns)
