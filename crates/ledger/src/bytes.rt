@@ -24,12 +24,13 @@ pub fn field(s: &[u8], at: u64, size: u64) -> u64 {
     value
 }
 
-// What is to be written stands on a page of zeros first: a whole image, or the 1,040 bytes of an answer.
-pub type Page = [u8; 5696];
+// What is to be written stands on a page of zeros first: a whole image, or the 1,040 bytes of an answer. The 64 bytes past an image are
+// there for the long runs, which lend pages as buffers that are too long.
+pub type Page = [u8; 5760];
 
 fn put_byte(page: &mut Page, at: u64, value: u64) {
     let k = at as usize;
-    if k < 5696 {
+    if k < 5760 {
         page[k] = (value % 256) as u8;
     }
 }
@@ -44,7 +45,7 @@ pub fn put_field(page: &mut Page, at: u64, size: u64, value: u64) {
 
 // Past the end of the page or of the buffer nothing is copied.
 fn copy_byte(page: &Page, buffer: &mut [u8], at: usize) {
-    if at < 5696 {
+    if at < 5760 {
         if at < buffer.len() {
             buffer[at] = page[at];
         }

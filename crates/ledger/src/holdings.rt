@@ -25,17 +25,24 @@ pub fn full_of(book: &Book, lot: u64) -> u64 {
     )
 }
 
-// What a lot holds from its buyer: "deposit in 2 to 4, full in 5, rest - paid in 6".
-pub fn hold(book: &Book, lot: u64) -> u64 {
-    let state = cell(book, STATE, lot);
+// What a lot of this state holds from its buyer: "deposit in 2 to 4, full in 5, rest - paid in 6".
+pub fn held_in_state(state: u64, full: u64, paid: u64) -> u64 {
     match state {
         2 => DEPOSIT,
         3 => DEPOSIT,
         4 => DEPOSIT,
-        5 => full_of(book, lot),
-        6 => minus(rest_payment(full_of(book, lot)), cell(book, PAID, lot)),
+        5 => full,
+        6 => minus(rest_payment(full), paid),
         _ => 0,
     }
+}
+
+pub fn hold(book: &Book, lot: u64) -> u64 {
+    held_in_state(
+        cell(book, STATE, lot),
+        full_of(book, lot),
+        cell(book, PAID, lot),
+    )
 }
 
 // An account's frozen money: what all lots hold from it.

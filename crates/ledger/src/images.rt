@@ -51,17 +51,17 @@ const CONTRACTS_END: u64 = 9;
 
 // ── Places in the image ─────────────────────────────────────────────────────────────────────────
 
-fn account_at(account: u64) -> u64 {
+pub fn account_at(account: u64) -> u64 {
     plus(32, product(minus(account, 1), 16))
 }
 
-fn ask_at(contract: u64) -> u64 {
+pub fn ask_at(contract: u64) -> u64 {
     plus(1568, product(minus(contract, 1), 4))
 }
 
 // The byte of a receipt's field: "owner, state, seller, buyer, contract, days D, one byte each; due day u16; weight u32; basis i32;
 // price, pending invoice, confirmed, paid of rest, u32 each".
-fn receipt_at(lot: u64, column: u64) -> u64 {
+pub fn receipt_at(lot: u64, column: u64) -> u64 {
     let start = plus(1600, product(minus(lot, 1), 32));
     if column <= DUE {
         return plus(start, column);
@@ -69,7 +69,7 @@ fn receipt_at(lot: u64, column: u64) -> u64 {
     plus(start, minus(product(column, 4), 20))
 }
 
-fn size_of(column: u64) -> u64 {
+pub fn size_of(column: u64) -> u64 {
     if column < DUE {
         return 1;
     }
@@ -346,7 +346,7 @@ fn write_receipts(book: &Book, page: &mut Page) {
 }
 
 pub fn write_image(book: &Book, image: &mut [u8]) {
-    let mut page: Page = [0; 5696];
+    let mut page: Page = [0; 5760];
     write_header(book, &mut page);
     write_accounts(book, &mut page);
     write_asks(book, &mut page);

@@ -87,7 +87,7 @@ fn take_out(book: &Book, c: Call) -> u64 {
 }
 
 // Numbers 4, 6 and 7 of a kind that has an account and a receipt.
-fn lot_number(c: Call, in_state: bool, by_party: bool) -> u64 {
+fn number_at_lot(c: Call, in_state: bool, by_party: bool) -> u64 {
     if !(is_account(c.account) & is_receipt(c.receipt)) {
         return 4;
     }
@@ -105,7 +105,7 @@ fn register(book: &Book, c: Call) -> u64 {
     if !is_weight(c.weight) {
         return 4;
     }
-    lot_number(c, cell(book, OWNER, c.receipt) == 0, true)
+    number_at_lot(c, cell(book, OWNER, c.receipt) == 0, true)
 }
 
 // "an idle, registered receipt (else 6), by its owner".
@@ -114,7 +114,7 @@ fn list(book: &Book, c: Call) -> u64 {
     if !(is_contract(c.contract) & (c.days <= 3) & is_basis(c.basis)) {
         return 4;
     }
-    lot_number(
+    number_at_lot(
         c,
         (cell(book, STATE, c.receipt) == 0) & (owner != 0),
         c.account == owner,
@@ -132,7 +132,7 @@ fn is_buyer(book: &Book, c: Call) -> bool {
 }
 
 fn by_seller(book: &Book, c: Call, state: u64) -> u64 {
-    lot_number(c, cell(book, STATE, c.receipt) == state, is_seller(book, c))
+    number_at_lot(c, cell(book, STATE, c.receipt) == state, is_seller(book, c))
 }
 
 // States 1 and 2.
@@ -141,11 +141,11 @@ fn is_open(book: &Book, lot: u64) -> bool {
 }
 
 fn withdraw_listing(book: &Book, c: Call) -> u64 {
-    lot_number(c, is_open(book, c.receipt), is_seller(book, c))
+    number_at_lot(c, is_open(book, c.receipt), is_seller(book, c))
 }
 
 fn withdraw_bid(book: &Book, c: Call) -> u64 {
-    lot_number(c, cell(book, STATE, c.receipt) == 2, is_buyer(book, c))
+    number_at_lot(c, cell(book, STATE, c.receipt) == 2, is_buyer(book, c))
 }
 
 // ── Bids ────────────────────────────────────────────────────────────────────────────────────────
@@ -165,7 +165,7 @@ fn lacks_deposit(book: &Book, c: Call) -> bool {
 }
 
 // 10 and 11 of a bid at this price.
-fn terms_number(book: &Book, c: Call, price: u64) -> u64 {
+fn number_of_bid(book: &Book, c: Call, price: u64) -> u64 {
     if unit_price(price, cell(book, BASIS, c.receipt)) < 1 {
         return 10;
     }
@@ -180,27 +180,27 @@ fn limit_bid(book: &Book, c: Call) -> u64 {
     if !is_price(c.amount) {
         return 4;
     }
-    let number = lot_number(c, is_open(book, c.receipt), !is_seller(book, c));
+    let number = number_at_lot(c, is_open(book, c.receipt), !is_seller(book, c));
     if number != 0 {
         return number;
     }
     if (cell(book, STATE, c.receipt) == 2) & (c.amount <= cell(book, PRICE, c.receipt)) {
         return 8;
     }
-    terms_number(book, c, c.amount)
+    number_of_bid(book, c, c.amount)
 }
 
 // 9: "market bid, no ask".
 fn market_bid(book: &Book, c: Call) -> u64 {
     let ask = ask_of(book, c.receipt);
-    let number = lot_number(c, is_open(book, c.receipt), !is_seller(book, c));
+    let number = number_at_lot(c, is_open(book, c.receipt), !is_seller(book, c));
     if number != 0 {
         return number;
     }
     if ask == 0 {
         return 9;
     }
-    terms_number(book, c, ask)
+    number_of_bid(book, c, ask)
 }
 
 // "price or 0".
@@ -238,7 +238,7 @@ fn invoice(book: &Book, c: Call) -> u64 {
         return 4;
     }
     let ready = (cell(book, STATE, lot) == 6) & (cell(book, PENDING, lot) == 0);
-    let number = lot_number(c, ready, is_seller(book, c));
+    let number = number_at_lot(c, ready, is_seller(book, c));
     if number != 0 {
         return number;
     }
@@ -251,7 +251,7 @@ fn invoice(book: &Book, c: Call) -> u64 {
 // 6 with none pending.
 fn confirm(book: &Book, c: Call) -> u64 {
     let pending = (cell(book, STATE, c.receipt) == 6) & (cell(book, PENDING, c.receipt) != 0);
-    lot_number(c, pending, is_buyer(book, c))
+    number_at_lot(c, pending, is_buyer(book, c))
 }
 
 // ── All kinds ───────────────────────────────────────────────────────────────────────────────────

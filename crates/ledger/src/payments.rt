@@ -6,7 +6,8 @@ pub const DEPOSIT: u64 = 5000000;
 // The most that a zone may hold: 10^15 fen.
 pub const MOST_TOTAL: u64 = 1000000000000000;
 
-// Sums and differences go modulo 2^64. Document 01's ranges keep the true ones within 0 to 2^64 - 1, so nothing is lost.
+// Sums and differences go modulo 2^64. In a valid zone document 01's ranges keep the true ones within 0 to 2^64 - 1, and `account_ok`
+// turns down an image whose sums could wrap.
 pub fn plus(x: u64, y: u64) -> u64 {
     std::num::wrapping_add_u64(x, y)
 }

@@ -1,11 +1,11 @@
 // Buffers of one size for image, call record and answer, with bytes to spare for lengths that are too long.
 ghost use mathlib.Core.Path.{_≡_};
 ghost use lib.ListN.{length};
-use ledger::plus;
+use ledger::Page;
 
-pub type Buffer = [u8; 5760];
+pub type Buffer = Page;
 
-// What answer buffers are filled with before a call.
+// What buffers that a call may write are filled with before it.
 pub const FILL: u8 = 195;
 
 // The same buffer; the promise of its length is what lending it as a slice needs.
@@ -27,42 +27,9 @@ pub fn zeros() -> Buffer
     [0; 5760]
 }
 
-fn wide(x: u8) -> u64 {
-    x as u64
-}
-
-pub fn byte(buffer: &Buffer, at: u64) -> u64 {
-    let k = at as usize;
-    if k < 5760 {
-        return wide(buffer[k]);
-    }
-    0
-}
-
-fn put_byte(buffer: &mut Buffer, at: u64, value: u64) {
-    let k = at as usize;
-    if k < 5760 {
-        buffer[k] = (value % 256) as u8;
-    }
-}
-
-// The little-endian number in `size` bytes from `at` on.
+// The number in `size` bytes from `at` on. Taking a `Buffer` and not a slice, it asks its callers for no proof of a length.
 pub fn field(buffer: &Buffer, at: u64, size: u64) -> u64 {
-    let mut value: u64 = 0;
-    let mut left = size;
-    while left > 0 {
-        left -= 1;
-        value = plus(value << 8, byte(buffer, plus(at, left)));
-    }
-    value
-}
-
-pub fn put_field(buffer: &mut Buffer, at: u64, size: u64, value: u64) {
-    let mut rest = value;
-    for k in 0..size {
-        put_byte(buffer, plus(at, k), rest);
-        rest = rest / 256;
-    }
+    ledger::field(buffer, at, size)
 }
 
 pub fn same(a: &Buffer, b: &Buffer) -> bool {
@@ -74,10 +41,10 @@ pub fn same(a: &Buffer, b: &Buffer) -> bool {
 }
 
 // Whether all bytes from `start` on are as `filled` leaves them.
-pub fn is_filled(buffer: &Buffer, start: u64) -> bool {
+pub fn is_filled(buffer: &Buffer, start: usize) -> bool {
     let mut same = true;
-    for at in start..5760 {
-        same = same & (byte(buffer, at) == wide(FILL));
+    for k in start..5760usize {
+        same = same & (buffer[k] == FILL);
     }
     same
 }

@@ -5,7 +5,6 @@ use crate::buffers::Buffer;
 use crate::buffers::field;
 use crate::buffers::filled;
 use crate::buffers::is_filled;
-use crate::buffers::put_field;
 use crate::buffers::same;
 use crate::buffers::sized;
 use crate::buffers::zeros;
@@ -22,6 +21,7 @@ use crate::tally::counted;
 use crate::tally::set;
 use ledger::plus;
 use ledger::product;
+use ledger::put_field;
 
 // ── The call on each side ───────────────────────────────────────────────────────────────────────
 
@@ -42,7 +42,7 @@ fn record_of(q: Request) -> Buffer
     sized(record)
 }
 
-fn wide(x: u32) -> u64 {
+pub fn wide(x: u32) -> u64 {
     x as u64
 }
 

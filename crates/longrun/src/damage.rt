@@ -1,34 +1,36 @@
 // Damaged images: one field of a valid image gets another value. Often the sums are made to fit again, so that the field alone decides.
 use crate::buffers::Buffer;
 use crate::buffers::field;
-use crate::buffers::put_field;
 use crate::draws::below;
 use crate::draws::between;
 use crate::draws::percent;
 use crate::draws::word;
-use crate::requests::BASIS;
-use crate::requests::BUYER;
-use crate::requests::CONFIRMED;
-use crate::requests::DEPOSIT;
-use crate::requests::DUE;
-use crate::requests::PAID;
-use crate::requests::PENDING;
-use crate::requests::PRICE;
 use crate::requests::Plan;
-use crate::requests::SELLER;
-use crate::requests::STATE;
-use crate::requests::account_at;
 use crate::requests::full_of;
-use crate::requests::number_of;
-use crate::requests::party_of;
-use crate::requests::receipt_at;
+use crate::requests::of_lot;
 use crate::requests::some_account;
 use crate::wild::edge;
+use ledger::BASIS;
+use ledger::BUYER;
+use ledger::CONFIRMED;
+use ledger::DUE;
+use ledger::PAID;
+use ledger::PENDING;
+use ledger::PRICE;
+use ledger::RECEIPT_COLUMNS;
+use ledger::SELLER;
+use ledger::STATE;
+use ledger::account_at;
+use ledger::ask_at;
+use ledger::held_in_state;
 use ledger::minus;
 use ledger::plus;
 use ledger::product;
+use ledger::put_field;
+use ledger::receipt_at;
 use ledger::rest_payment;
 use ledger::share;
+use ledger::size_of;
 
 // A field of the image: its first byte and its size.
 struct Spot {
@@ -62,19 +64,6 @@ fn displace(seed: &mut u64, image: &mut Buffer, spot: Spot, limit: u64) -> u64 {
 
 // ── Sums that fit again ─────────────────────────────────────────────────────────────────────────
 
-fn hold(image: &Buffer, lot: u64) -> u64 {
-    let state = party_of(image, lot, STATE);
-    let full = full_of(image, lot);
-    match state {
-        2 => DEPOSIT,
-        3 => DEPOSIT,
-        4 => DEPOSIT,
-        5 => full,
-        6 => minus(rest_payment(full), number_of(image, lot, PAID)),
-        _ => 0,
-    }
-}
-
 fn raise_field(image: &mut Buffer, at: u64, by: u64) {
     let value = plus(field(image, at, 8), by);
     put_field(image, at, 8, value);
@@ -87,8 +76,12 @@ fn clear_frozen(image: &mut Buffer) {
 }
 
 fn freeze(image: &mut Buffer, lot: u64) {
-    let buyer = party_of(image, lot, BUYER);
-    let fen = hold(image, lot);
+    let buyer = of_lot(image, lot, BUYER);
+    let fen = held_in_state(
+        of_lot(image, lot, STATE),
+        full_of(image, lot),
+        of_lot(image, lot, PAID),
+    );
     if (1 <= buyer) & (buyer <= 96) {
         raise_field(image, plus(account_at(buyer), 8), fen);
     }
@@ -117,41 +110,30 @@ fn rebook(image: &mut Buffer) {
 
 // ── Which field ─────────────────────────────────────────────────────────────────────────────────
 
-// One of a receipt's thirteen fields.
-fn receipt_spot(k: u64) -> Spot {
-    if k < 6 {
-        return Spot { at: k, size: 1 };
-    }
-    if k == 6 {
-        return Spot { at: 6, size: 2 };
-    }
-    Spot {
-        at: minus(product(k, 4), 20),
-        size: 4,
-    }
-}
-
 // A value at the field's own limit or just beyond.
-fn limit_of(seed: &mut u64, image: &Buffer, lot: u64, place: u64) -> u64 {
+fn limit_of(seed: &mut u64, image: &Buffer, lot: u64, column: u64) -> u64 {
     let beyond = below(seed, 2);
     let full = full_of(image, lot);
-    let confirmed = number_of(image, lot, CONFIRMED);
-    match place {
+    let confirmed = of_lot(image, lot, CONFIRMED);
+    match column {
         DUE => plus(30003, beyond),
-        BASIS => minus(beyond, number_of(image, lot, PRICE)),
+        BASIS => minus(beyond, of_lot(image, lot, PRICE)),
         PENDING => plus(minus(full, confirmed), beyond),
-        CONFIRMED => minus(plus(full, beyond), plus(number_of(image, lot, PENDING), 1)),
+        CONFIRMED => minus(plus(full, beyond), plus(of_lot(image, lot, PENDING), 1)),
         PAID => plus(share(rest_payment(full), confirmed, full), beyond),
-        BUYER => party_of(image, lot, SELLER),
-        SELLER => party_of(image, lot, BUYER),
+        BUYER => of_lot(image, lot, SELLER),
+        SELLER => of_lot(image, lot, BUYER),
         _ => below(seed, 9),
     }
 }
 
 fn damage_receipt(seed: &mut u64, image: &mut Buffer, lot: u64) {
-    let mut spot = receipt_spot(below(seed, 13));
-    let limit = limit_of(seed, image, lot, spot.at);
-    spot.at = plus(spot.at, receipt_at(lot));
+    let column = below(seed, RECEIPT_COLUMNS);
+    let limit = limit_of(seed, image, lot, column);
+    let spot = Spot {
+        at: receipt_at(lot, column),
+        size: size_of(column),
+    };
     displace(seed, image, spot, limit);
     if percent(seed, 60) {
         rebook(image);
@@ -190,7 +172,7 @@ fn header_spot(k: u64) -> Spot {
         10 => Spot { at: 23, size: 1 },
         11 => Spot { at: 24, size: 8 },
         _ => Spot {
-            at: plus(1568, product(4, minus(k, 12))),
+            at: ask_at(minus(k, 11)),
             size: 4,
         },
     }

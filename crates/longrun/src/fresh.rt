@@ -3,14 +3,11 @@ use crate::buffers::Buffer;
 use crate::buffers::filled;
 use crate::buffers::is_filled;
 use crate::buffers::same;
+use crate::compare::wide;
 use crate::tally::DIFFERENCES;
 use crate::tally::FRESH;
 use crate::tally::Tally;
 use crate::tally::add;
-
-fn wide(x: u32) -> u64 {
-    x as u64
-}
 
 // The library's number for a buffer of this length; 99, which is none, where the buffer has not so many bytes.
 fn fresh_of_library(image: &mut [u8], length: usize) -> u64 {

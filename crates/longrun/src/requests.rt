@@ -4,42 +4,29 @@ use crate::buffers::field;
 use crate::draws::below;
 use crate::draws::between;
 use crate::draws::percent;
+use ledger::BASIS;
+use ledger::BUYER;
+use ledger::CONFIRMED;
+use ledger::CONTRACT;
+use ledger::DEPOSIT;
+use ledger::OWNER;
+use ledger::PENDING;
+use ledger::PRICE;
+use ledger::SELLER;
+use ledger::STATE;
+use ledger::WEIGHT;
+use ledger::account_at;
 use ledger::full_payment;
 use ledger::minus;
 use ledger::plus;
 use ledger::product;
-
-pub const DEPOSIT: u64 = 5000000;
+use ledger::receipt_at;
+use ledger::size_of;
 
 pub const MOST_AMOUNT: u64 = 1000000000000;
 
 // Prices of this contract are low, so that full payments lie below the deposit.
 pub const CHEAP_CONTRACT: u64 = 8;
-
-// Places of a receipt's fields.
-pub const OWNER: u64 = 0;
-
-pub const STATE: u64 = 1;
-
-pub const SELLER: u64 = 2;
-
-pub const BUYER: u64 = 3;
-
-pub const CONTRACT: u64 = 4;
-
-pub const DUE: u64 = 6;
-
-pub const WEIGHT: u64 = 8;
-
-pub const BASIS: u64 = 12;
-
-pub const PRICE: u64 = 16;
-
-pub const PENDING: u64 = 20;
-
-pub const CONFIRMED: u64 = 24;
-
-pub const PAID: u64 = 28;
 
 // One run; closes are per thousand calls.
 pub struct Plan {
@@ -88,27 +75,16 @@ pub fn request_of(kind: u64, account: u64, receipt: u64, amount: u64) -> Request
 
 // ── What the image has ──────────────────────────────────────────────────────────────────────────
 
-pub fn receipt_at(lot: u64) -> u64 {
-    plus(1600, product(minus(lot, 1), 32))
-}
-
-pub fn account_at(account: u64) -> u64 {
-    plus(32, product(minus(account, 1), 16))
-}
-
-pub fn party_of(image: &Buffer, lot: u64, place: u64) -> u64 {
-    field(image, plus(receipt_at(lot), place), 1)
-}
-
-pub fn number_of(image: &Buffer, lot: u64, place: u64) -> u64 {
-    field(image, plus(receipt_at(lot), place), 4)
+// A field of a lot's receipt.
+pub fn of_lot(image: &Buffer, lot: u64, column: u64) -> u64 {
+    field(image, receipt_at(lot, column), size_of(column))
 }
 
 pub fn full_of(image: &Buffer, lot: u64) -> u64 {
     full_payment(
-        number_of(image, lot, PRICE),
-        number_of(image, lot, BASIS),
-        number_of(image, lot, WEIGHT),
+        of_lot(image, lot, PRICE),
+        of_lot(image, lot, BASIS),
+        of_lot(image, lot, WEIGHT),
     )
 }
 
@@ -228,7 +204,7 @@ fn register(seed: &mut u64, plan: Plan, lot: u64) -> Request {
 }
 
 fn list(seed: &mut u64, plan: Plan, image: &Buffer, lot: u64) -> Request {
-    let owner = party_of(image, lot, OWNER);
+    let owner = of_lot(image, lot, OWNER);
     let mut q = request_of(4, party(seed, plan, owner), lot, 0);
     let contract = some_contract(seed);
     q.contract = contract;
@@ -239,7 +215,7 @@ fn list(seed: &mut u64, plan: Plan, image: &Buffer, lot: u64) -> Request {
 
 // An unregistered receipt is registered, another one listed; now and then the other way round.
 fn list_or_register(seed: &mut u64, plan: Plan, image: &Buffer, lot: u64) -> Request {
-    let unregistered = party_of(image, lot, OWNER) == 0;
+    let unregistered = of_lot(image, lot, OWNER) == 0;
     if percent(seed, 4) != unregistered {
         return register(seed, plan, lot);
     }
@@ -250,11 +226,11 @@ fn list_or_register(seed: &mut u64, plan: Plan, image: &Buffer, lot: u64) -> Req
 
 // Near the standing bid, or a price of the contract.
 fn bid_price(seed: &mut u64, image: &Buffer, lot: u64) -> u64 {
-    let standing = number_of(image, lot, PRICE);
+    let standing = of_lot(image, lot, PRICE);
     if (standing > 5) & percent(seed, 70) {
         return minus(plus(standing, product(5, below(seed, 6))), 5);
     }
-    near_price(seed, party_of(image, lot, CONTRACT))
+    near_price(seed, of_lot(image, lot, CONTRACT))
 }
 
 // The buyer whose bid stands, or any account.
@@ -267,7 +243,7 @@ fn bidder(seed: &mut u64, plan: Plan, buyer: u64) -> u64 {
 
 // A limit bid, or the money for one: now and then the bidder's free money comes to the deposit first, or one fen beside it.
 fn bid(seed: &mut u64, plan: Plan, image: &Buffer, lot: u64) -> Request {
-    let account = bidder(seed, plan, party_of(image, lot, BUYER));
+    let account = bidder(seed, plan, of_lot(image, lot, BUYER));
     if percent(seed, 8) {
         return meet_limit(seed, image, account, DEPOSIT);
     }
@@ -275,8 +251,8 @@ fn bid(seed: &mut u64, plan: Plan, image: &Buffer, lot: u64) -> Request {
 }
 
 fn bid_or_withdraw(seed: &mut u64, plan: Plan, image: &Buffer, lot: u64) -> Request {
-    let buyer = party_of(image, lot, BUYER);
-    let seller = party_of(image, lot, SELLER);
+    let buyer = of_lot(image, lot, BUYER);
+    let seller = of_lot(image, lot, SELLER);
     let draw = below(seed, 100);
     if draw < 65 {
         return bid(seed, plan, image, lot);
@@ -316,18 +292,18 @@ fn confirms(seed: &mut u64, pending: bool) -> bool {
 }
 
 fn invoice_or_confirm(seed: &mut u64, plan: Plan, image: &Buffer, lot: u64) -> Request {
-    let pending = number_of(image, lot, PENDING) != 0;
+    let pending = of_lot(image, lot, PENDING) != 0;
     if confirms(seed, pending) {
-        return request_of(14, party(seed, plan, party_of(image, lot, BUYER)), lot, 0);
+        return request_of(14, party(seed, plan, of_lot(image, lot, BUYER)), lot, 0);
     }
-    let left = minus(full_of(image, lot), number_of(image, lot, CONFIRMED));
-    let account = party(seed, plan, party_of(image, lot, SELLER));
+    let left = minus(full_of(image, lot), of_lot(image, lot, CONFIRMED));
+    let account = party(seed, plan, of_lot(image, lot, SELLER));
     request_of(13, account, lot, invoice_amount(seed, left))
 }
 
 // A lot waits for the morning close, which asks for the buyer's money.
 fn await_close(seed: &mut u64, plan: Plan, image: &Buffer, lot: u64) -> Request {
-    let buyer = party_of(image, lot, BUYER);
+    let buyer = of_lot(image, lot, BUYER);
     let full = full_of(image, lot);
     if percent(seed, 40) {
         let account = party(seed, plan, buyer);
@@ -343,7 +319,7 @@ fn await_close(seed: &mut u64, plan: Plan, image: &Buffer, lot: u64) -> Request 
 fn lodge_or_wait(seed: &mut u64, plan: Plan, image: &Buffer, lot: u64) -> Request {
     let draw = below(seed, 100);
     if draw < 40 {
-        return request_of(10, party(seed, plan, party_of(image, lot, SELLER)), lot, 0);
+        return request_of(10, party(seed, plan, of_lot(image, lot, SELLER)), lot, 0);
     }
     if draw < 70 {
         return await_close(seed, plan, image, lot);
@@ -352,7 +328,7 @@ fn lodge_or_wait(seed: &mut u64, plan: Plan, image: &Buffer, lot: u64) -> Reques
 }
 
 fn await_penalty(seed: &mut u64, plan: Plan, image: &Buffer, lot: u64) -> Request {
-    let seller = party_of(image, lot, SELLER);
+    let seller = of_lot(image, lot, SELLER);
     if percent(seed, 40) {
         let account = party(seed, plan, seller);
         return pay_in(seed, plan, account);
@@ -362,14 +338,14 @@ fn await_penalty(seed: &mut u64, plan: Plan, image: &Buffer, lot: u64) -> Reques
 
 // A call that takes the lot a step on, or moves the money that its next step asks for.
 pub fn step_lot(seed: &mut u64, plan: Plan, image: &Buffer, lot: u64) -> Request {
-    let state = party_of(image, lot, STATE);
+    let state = of_lot(image, lot, STATE);
     match state {
         0 => list_or_register(seed, plan, image, lot),
         1 => bid_or_withdraw(seed, plan, image, lot),
         2 => bid_or_withdraw(seed, plan, image, lot),
         3 => lodge_or_wait(seed, plan, image, lot),
         4 => await_close(seed, plan, image, lot),
-        5 => request_of(12, party(seed, plan, party_of(image, lot, SELLER)), lot, 0),
+        5 => request_of(12, party(seed, plan, of_lot(image, lot, SELLER)), lot, 0),
         6 => invoice_or_confirm(seed, plan, image, lot),
         _ => await_penalty(seed, plan, image, lot),
     }

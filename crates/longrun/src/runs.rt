@@ -1,7 +1,6 @@
 // A run: a zone from its fresh image on.
 use crate::buffers::Buffer;
 use crate::buffers::filled;
-use crate::buffers::put_field;
 use crate::compare::count;
 use crate::compare::drive;
 use crate::compare::show;
@@ -24,6 +23,7 @@ use crate::wild::make_wild;
 use crate::wild::odd_field;
 use ledger::plus;
 use ledger::product;
+use ledger::put_field;
 
 // ── Damaged images ──────────────────────────────────────────────────────────────────────────────
 

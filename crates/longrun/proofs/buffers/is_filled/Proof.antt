@@ -4,22 +4,19 @@ use Rattle.longrun.proofs.buffers.is_filled.Statement.{statement}
 use Rattle.longrun.proofs.buffers.is_filled.Tie as tie
 
 abbrev Inv-loop : tie.InvT-loop
-Inv-loop buffer start same₀ at₀ same at = 0 ≤ 0
+Inv-loop buffer start same₀ k₀ same k = 0 ≤ 0
 
 abbrev μ-loop : tie.MeasureT-loop
-μ-loop buffer start same₀ at₀ same at = 5760 - at
+μ-loop buffer start same₀ k₀ same k = 5760 - k
 
 loop-holds : tie.Need-loop-holds Inv-loop μ-loop
 loop-holds c = search needs
 
-byte-requires : tie.Need-byte-requires Inv-loop μ-loop
-byte-requires c κs = search needs
+element-copy-out-same : tie.Need-element-copy-out-same Inv-loop μ-loop
+element-copy-out-same c = search needs
 
-wide-requires : tie.Need-wide-requires Inv-loop μ-loop
-wide-requires c κs = search needs
-
-add-at : tie.Need-add-at Inv-loop μ-loop
-add-at c = search needs
+add-k : tie.Need-add-k Inv-loop μ-loop
+add-k c = search needs
 
 loop-less : tie.Need-loop-less Inv-loop μ-loop
 loop-less c = search needs
@@ -37,9 +34,8 @@ is-filled-spec =
     Inv-loop
     μ-loop
     loop-holds
-    byte-requires
-    wide-requires
-    add-at
+    element-copy-out-same
+    add-k
     loop-less
     loop-again
     returns)
