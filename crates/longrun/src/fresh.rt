@@ -4,25 +4,21 @@ use crate::buffers::filled;
 use crate::buffers::is_filled;
 use crate::buffers::same;
 use crate::compare::wide;
-use crate::tally::DIFFERENCES;
 use crate::tally::FRESH;
 use crate::tally::Tally;
 use crate::tally::add;
+use crate::tally::count_difference;
 
-// The library's number for a buffer of this length; 99, which is none, where the buffer has not so many bytes.
-fn fresh_of_library(image: &mut [u8], length: usize) -> u64 {
+// The number of the library, or else of the ledger, for a buffer of this length; 99, which is none, where it has not so many bytes.
+fn fresh_side(library: bool, image: &mut [u8], length: usize) -> u64 {
     if length > image.len() {
         return 99;
     }
-    wide(crz::crz_fresh(&mut image[..length]))
-}
-
-// The same for the ledger, with 98.
-fn fresh_of_ledger(image: &mut [u8], length: usize) -> u64 {
-    if length > image.len() {
-        return 98;
+    let part = &mut image[..length];
+    if library {
+        return wide(crz::crz_fresh(part));
     }
-    ledger::fresh(&mut image[..length])
+    ledger::fresh(part)
 }
 
 // What document 01 leaves as it was: bytes past the image, and all of them at number 2.
@@ -33,18 +29,27 @@ fn left_alone(number: u64, image: &Buffer) -> bool {
     is_filled(image, 0)
 }
 
+fn show(tally: &mut Tally, length: u64) {
+    if count_difference(tally) {
+        io::write_all(1, b"difference at the fresh entry, length ");
+        io::print_decimal(1, length);
+        io::write_all(1, b"\n");
+    }
+}
+
 // Both sides write a fresh image into a buffer of `length` bytes; numbers and buffers are compared.
 pub fn make_fresh(length: u64, image: &mut Buffer, second: &mut Buffer, tally: &mut Tally) {
     let mut ours: Buffer = filled();
     let mut theirs: Buffer = filled();
     let size = length as usize;
-    let number = fresh_of_library(&mut ours, size);
-    let of_ledger = fresh_of_ledger(&mut theirs, size);
+    let number = fresh_side(true, &mut ours, size);
+    let of_ledger = fresh_side(false, &mut theirs, size);
     *image = ours;
     *second = theirs;
     add(tally, FRESH, 1);
-    if !((number == of_ledger) & same(&ours, &theirs) & left_alone(number, &ours)) {
-        add(tally, DIFFERENCES, 1);
+    let agree = (number == of_ledger) & (number <= 2) & same(&ours, &theirs);
+    if !(agree & left_alone(number, &ours)) {
+        show(tally, length);
     }
 }
 
