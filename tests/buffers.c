@@ -1,6 +1,6 @@
 /*
- * Buffers of every length around the named ones, and of length 0 at a null pointer: what is returned, what is written, and that no byte
- * outside a buffer changes. The last line is 'N passed, M failed'.
+ * Buffers of the named lengths and those beside them in every combination, length 0 at a null pointer: what is returned, what is
+ * written, and that no byte outside a buffer changes. The last line is 'N passed, M failed'.
  */
 #include "../include/crz.h"
 
@@ -44,24 +44,39 @@ static uint32_t number(size_t image_len, size_t call_len, size_t answer_len)
     return call_len == CRZ_CALL_LENGTH ? CRZ_ACCEPTED : CRZ_BAD_CALL;
 }
 
-/* a pay-in of 7 fen for account 1 on a fresh image, cut or lengthened */
-static void lend(size_t image_len, size_t call_len, size_t answer_len)
+/* a fresh image, cut, or lengthened with zeros */
+static void lend_image(size_t len)
 {
+    memset(before, 0, sizeof before);
+    crz_fresh(before, CRZ_IMAGE_LENGTH);
     memset(image, 0xc3, sizeof image);
+    memcpy(image + GUARD, before, len);
+}
+
+/* a pay-in of 7 fen for account 1, cut, or lengthened with zeros */
+static void lend_call(size_t len)
+{
     memset(call, 0xc3, sizeof call);
-    memset(answer, 0xc3, sizeof answer);
-    crz_fresh(image + GUARD, CRZ_IMAGE_LENGTH);
-    memset(image + GUARD + image_len, image_len < CRZ_IMAGE_LENGTH ? 0xc3 : 0, CRZ_IMAGE_LENGTH - (image_len < CRZ_IMAGE_LENGTH ? image_len : CRZ_IMAGE_LENGTH));
-    if (image_len > CRZ_IMAGE_LENGTH)
-        memset(image + GUARD + CRZ_IMAGE_LENGTH, 0, image_len - CRZ_IMAGE_LENGTH);
-    memset(call + GUARD, 0, call_len);
-    if (call_len > CRZ_CALL_AMOUNT) {
+    memset(call + GUARD, 0, len);
+    if (len > CRZ_CALL_AMOUNT) {
         call[GUARD + CRZ_CALL_KIND] = CRZ_PAY_IN;
         call[GUARD + CRZ_CALL_ACCOUNT] = 1;
         call[GUARD + CRZ_CALL_AMOUNT] = 7;
     }
+}
+
+static void lend(size_t image_len, size_t call_len, size_t answer_len)
+{
+    lend_image(image_len);
+    lend_call(call_len);
+    memset(answer, 0xc3, sizeof answer);
     memset(answer + GUARD, 0xa5, answer_len);
-    memcpy(before, image + GUARD, image_len);
+}
+
+/* the total, and no entry */
+static int paid_in(const uint8_t *out)
+{
+    return out[CRZ_ANSWER_TOTAL] == 7 && all(out + CRZ_FIRST_ENTRY, CRZ_ANSWER_LENGTH - CRZ_FIRST_ENTRY, 0) && image[GUARD + CRZ_IMAGE_TOTAL] == 7;
 }
 
 static void lengths(size_t image_len, size_t call_len, size_t answer_len)
@@ -79,7 +94,7 @@ static void lengths(size_t image_len, size_t call_len, size_t answer_len)
     else if (want != CRZ_ACCEPTED)
         expect(out[0] == want && all(out + 1, CRZ_ANSWER_LENGTH - 1, 0), "the answer of a refusal", image_len, call_len, answer_len);
     else
-        expect(out[CRZ_ANSWER_TOTAL] == 7 && image[GUARD + CRZ_IMAGE_TOTAL] == 7, "the accepted call", image_len, call_len, answer_len);
+        expect(paid_in(out), "the accepted call", image_len, call_len, answer_len);
     if (want != CRZ_SHORT_ANSWER)
         expect(all(out + CRZ_ANSWER_LENGTH, answer_len - CRZ_ANSWER_LENGTH, 0xa5), "bytes past 1,040", image_len, call_len, answer_len);
 }
@@ -96,16 +111,21 @@ static void fresh(size_t len)
         expect(all(image + GUARD, len, 0xa5), "crz_fresh writes nothing", len, 0, 0);
 }
 
+/* no byte, one byte, and each length that the interface names with the lengths beside it */
+static const size_t edges[] = {
+    0, 1, CRZ_CALL_LENGTH - 1, CRZ_CALL_LENGTH, CRZ_CALL_LENGTH + 1, CRZ_ANSWER_LENGTH - 1, CRZ_ANSWER_LENGTH, CRZ_ANSWER_LENGTH + 1,
+    CRZ_IMAGE_LENGTH - 1, CRZ_IMAGE_LENGTH, CRZ_IMAGE_LENGTH + 1
+};
+
+enum { EDGES = sizeof edges / sizeof edges[0] };
+
 int main(void)
 {
-    static const size_t images[] = {0, 1, 23, 5695, 5696, 5697}, calls[] = {0, 1, 23, 24, 25, 1040}, answers[] = {0, 1, 1039, 1040, 1041, 5696};
-    size_t i, j, k;
-    for (i = 0; i < 6; i++)
-        for (j = 0; j < 6; j++)
-            for (k = 0; k < 6; k++)
-                lengths(images[i], calls[j], answers[k]);
-    for (i = 0; i < 6; i++)
-        fresh(images[i]);
+    size_t i;
+    for (i = 0; i < EDGES * EDGES * EDGES; i++)
+        lengths(edges[i / (EDGES * EDGES)], edges[i / EDGES % EDGES], edges[i % EDGES]);
+    for (i = 0; i < EDGES; i++)
+        fresh(edges[i]);
     printf("%lu passed, %lu failed\n", passed, failed);
     return failed != 0;
 }
