@@ -89,7 +89,7 @@ static void put_receipt(uint8_t *image, unsigned r)
         receipt[CRZ_RECEIPT_DAYS] = (uint8_t)(r % 4);
     }
     put_trade(receipt, state, buyer);
-    add_to(image + CRZ_IMAGE_ACCOUNTS + CRZ_ACCOUNT_LENGTH * (buyer - 1) + 8, money);
+    add_to(image + CRZ_IMAGE_ACCOUNTS + CRZ_ACCOUNT_LENGTH * (buyer - 1) + CRZ_ACCOUNT_FROZEN, money);
     add_to(image + CRZ_IMAGE_TOTAL, money);
 }
 
@@ -98,7 +98,7 @@ static void make_image(uint8_t *image, int busy)
     crz_fresh(image, CRZ_IMAGE_LENGTH);
     put_number(image + CRZ_IMAGE_DAY, 2, DAY);
     for (unsigned a = 0; busy && a < CRZ_ACCOUNTS; a++) {
-        add_to(image + CRZ_IMAGE_ACCOUNTS + CRZ_ACCOUNT_LENGTH * a, 1000000000 + a);
+        add_to(image + CRZ_IMAGE_ACCOUNTS + CRZ_ACCOUNT_LENGTH * a + CRZ_ACCOUNT_FREE, 1000000000 + a);
         add_to(image + CRZ_IMAGE_TOTAL, 1000000000 + a);
     }
     for (unsigned r = 0; busy && r < CRZ_RECEIPTS; r++)

@@ -123,7 +123,7 @@ static void print_accounts(const uint8_t *image)
     printf("  %-8s %22s %22s\n", "account", "free fen", "frozen fen");
     for (unsigned a = 0; a < CRZ_ACCOUNTS; a++) {
         const uint8_t *account = image + CRZ_IMAGE_ACCOUNTS + CRZ_ACCOUNT_LENGTH * a;
-        uint64_t free_money = get_number(account, 8), frozen = get_number(account + 8, 8);
+        uint64_t free_money = get_number(account + CRZ_ACCOUNT_FREE, 8), frozen = get_number(account + CRZ_ACCOUNT_FROZEN, 8);
         if (free_money != 0 || frozen != 0)
             printf("  %-8u %22s %22s\n", a + 1, grouped(free_money).text, grouped(frozen).text);
     }

@@ -4,7 +4,8 @@
  * A zone is an image of CRZ_IMAGE_LENGTH bytes that the host keeps. Each entry takes byte buffers that the host lends for the time of the
  * call: a pointer and a length. No two buffers of one call may share a byte. A buffer of length 0 may come with any pointer, NULL too.
  * The library keeps no state of its own and allocates nothing: calls on different images may run at the same time on different threads,
- * calls on one image one at a time.
+ * calls on one image one at a time. On x86-64 crz_call takes 96 KB of the caller's stack and crz_fresh 28 KB, whatever the kind and the
+ * image: a thread that makes calls has room with a stack of 128 KB.
  *
  * Numbers in the image, the call and the answer are little-endian; i32 is two's complement.
  */
@@ -54,6 +55,7 @@ enum crz_call_offset {
     CRZ_CALL_RECEIPT = 2,   /* u8, 1 to 128 */
     CRZ_CALL_CONTRACT = 3,  /* u8, 1 to 8 */
     CRZ_CALL_DAYS = 4,      /* u8, 0 to 3 */
+    CRZ_CALL_ZEROS = 5,     /* three zero bytes */
     CRZ_CALL_AMOUNT = 8,    /* u64: fen, 1 to 10^12; or a price in yuan per tonne, a multiple of 5 from 5 to 200,000 */
     CRZ_CALL_BASIS = 16,    /* i32: yuan per tonne, -50,000 to 50,000 */
     CRZ_CALL_WEIGHT = 20    /* u32: kilograms, 1,000 to 60,000 */
@@ -83,11 +85,11 @@ enum crz_answer_offset {
     CRZ_ANSWER_NUMBER = 0,  /* u8 */
     CRZ_ANSWER_PHASE = 1,   /* u8: phase after the call */
     CRZ_ANSWER_COUNT = 2,   /* u16: entries */
-    CRZ_ANSWER_ENTRIES = 4, /* u32: offset of the entries, 16 */
+    CRZ_ANSWER_OFFSET = 4,  /* u32: offset of the entries, CRZ_FIRST_ENTRY */
     CRZ_ANSWER_TOTAL = 8    /* u64: total after the call, fen */
 };
 
-#define CRZ_FIRST_ENTRY 16
+#define CRZ_FIRST_ENTRY 16 /* where the entries begin in an answer */
 #define CRZ_ENTRY_LENGTH 8
 
 enum crz_entry_offset {
@@ -119,16 +121,28 @@ enum crz_outcome {          /* what the entry's number is, where it has one */
 /* ── Image ─────────────────────────────────────────────────────────────────────────────────────── */
 
 enum crz_image_offset {
-    CRZ_IMAGE_DAY = 6,      /* u16, 1 to 30,000 */
-    CRZ_IMAGE_PHASE = 20,   /* u8: 0 morning, 1 afternoon */
-    CRZ_IMAGE_TOTAL = 24,   /* u64, fen */
+    CRZ_IMAGE_ACCOUNT_COUNT = 0,    /* u16, CRZ_ACCOUNTS */
+    CRZ_IMAGE_RECEIPT_COUNT = 2,    /* u16, CRZ_RECEIPTS */
+    CRZ_IMAGE_CONTRACT_COUNT = 4,   /* u16, CRZ_CONTRACTS */
+    CRZ_IMAGE_DAY = 6,              /* u16, 1 to 30,000 */
+    CRZ_IMAGE_ACCOUNT_OFFSET = 8,   /* u32, CRZ_IMAGE_ACCOUNTS */
+    CRZ_IMAGE_CONTRACT_OFFSET = 12, /* u32, CRZ_IMAGE_ASKS */
+    CRZ_IMAGE_RECEIPT_OFFSET = 16,  /* u32, CRZ_IMAGE_RECEIPTS */
+    CRZ_IMAGE_PHASE = 20,           /* u8: 0 morning, 1 afternoon */
+    CRZ_IMAGE_ZEROS = 21,           /* three zero bytes */
+    CRZ_IMAGE_TOTAL = 24,           /* u64, fen */
     CRZ_IMAGE_ACCOUNTS = 32,
-    CRZ_IMAGE_ASKS = 1568,  /* u32 each, yuan per tonne; 0 for none */
+    CRZ_IMAGE_ASKS = 1568,          /* u32 each, yuan per tonne; 0 for none */
     CRZ_IMAGE_RECEIPTS = 1600
 };
 
-#define CRZ_ACCOUNT_LENGTH 16 /* free u64, frozen u64, fen */
+#define CRZ_ACCOUNT_LENGTH 16
 #define CRZ_RECEIPT_LENGTH 32
+
+enum crz_account_offset {
+    CRZ_ACCOUNT_FREE = 0,   /* u64, fen */
+    CRZ_ACCOUNT_FROZEN = 8  /* u64, fen */
+};
 
 enum crz_receipt_offset {
     CRZ_RECEIPT_OWNER = 0,
@@ -166,9 +180,10 @@ enum crz_state {
 uint32_t crz_fresh(uint8_t *image, size_t image_len);
 
 /*
- * Makes a call on an image. Returns 0 and has then written the image after the call and the answer with its entries; or returns the
- * lowest number that applies. A refusal leaves the image as it was. 1 writes nothing at all; 2 to 13 put the number into byte 0 of the
- * answer and zeros behind it up to byte 1,040. Bytes of the answer past 1,040 keep their content in every case.
+ * Makes a call on an image. Returns 0 and has then written the image after the call and the answer: its head, its entries, and zeros
+ * behind them up to byte 1,040; or returns the lowest number that applies. A refusal leaves the image as it was. 1 writes nothing at
+ * all; 2 to 13 put the number into byte 0 of the answer and zeros behind it up to byte 1,040. Bytes of the answer past 1,040 keep their
+ * content in every case.
  */
 uint32_t crz_call(uint8_t *image, size_t image_len, const uint8_t *call, size_t call_len, uint8_t *answer, size_t answer_len);
 

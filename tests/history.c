@@ -90,7 +90,7 @@ static int enter(const uint8_t *e)
 static int feed(void)
 {
     unsigned account = call[CRZ_CALL_ACCOUNT];
-    uint64_t count = number_at(answer + CRZ_ANSWER_COUNT, 2), at = number_at(answer + CRZ_ANSWER_ENTRIES, 4), i;
+    uint64_t count = number_at(answer + CRZ_ANSWER_COUNT, 2), at = number_at(answer + CRZ_ANSWER_OFFSET, 4), i;
     int ok = 1;
     if (call[CRZ_CALL_KIND] == CRZ_PAY_IN)
         pay_ins[account] += number_at(call + CRZ_CALL_AMOUNT, 8);
@@ -121,12 +121,12 @@ static int agrees(void)
     held(sums);
     for (x = 1; x <= CRZ_ACCOUNTS; x++) {
         const uint8_t *a = image + CRZ_IMAGE_ACCOUNTS + CRZ_ACCOUNT_LENGTH * (x - 1);
-        uint64_t has_free = number_at(a, 8), has_frozen = number_at(a + 8, 8);
+        uint64_t has_free = number_at(a + CRZ_ACCOUNT_FREE, 8), has_frozen = number_at(a + CRZ_ACCOUNT_FROZEN, 8);
         if (has_free + has_frozen + take_outs[x] + sent[x] != pay_ins[x] + got[x] || has_frozen != sums[x])
             return 0;
     }
     for (k = 1; k <= CRZ_RECEIPTS; k++) {
-        unsigned owner = image[CRZ_IMAGE_RECEIPTS + CRZ_RECEIPT_LENGTH * (k - 1)];
+        unsigned owner = image[CRZ_IMAGE_RECEIPTS + CRZ_RECEIPT_LENGTH * (k - 1) + CRZ_RECEIPT_OWNER];
         if (owner != (lots[k].buyer ? lots[k].buyer : lots[k].registrant))
             return 0;
     }

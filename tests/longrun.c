@@ -251,7 +251,7 @@ static void pay_in(struct request *q, uint64_t account)
 
 static void take_out(struct request *q, uint8_t *image, uint64_t account)
 {
-    uint64_t free = get(account_in(image, account), 8), amount = free;
+    uint64_t free = get(account_in(image, account) + CRZ_ACCOUNT_FREE, 8), amount = free;
     if (percent(50))
         amount = 1 + below(free + 2);
     if (amount == 0 || amount > most_amount)
@@ -324,7 +324,7 @@ static void meet_limit(struct request *q, uint8_t *image, const uint8_t *receipt
     uint64_t limit = penalty ? DEPOSIT : full > DEPOSIT ? full - DEPOSIT : 1, wanted = limit - 1 + below(3), free;
     if (account < 1 || account > CRZ_ACCOUNTS)
         account = 1;
-    free = get(account_in(image, account), 8);
+    free = get(account_in(image, account) + CRZ_ACCOUNT_FREE, 8);
     if (free < wanted)
         ask_for(q, CRZ_PAY_IN, account, 0, wanted - free);
     else
@@ -412,8 +412,9 @@ static uint64_t edge(void)
 static void edge_field(struct request *q)
 {
     static const struct { uint8_t offset, size; } fields[] = {
-        { CRZ_CALL_KIND, 1 }, { CRZ_CALL_ACCOUNT, 1 }, { CRZ_CALL_RECEIPT, 1 }, { CRZ_CALL_CONTRACT, 1 }, { CRZ_CALL_DAYS, 1 }, { 5, 1 },
-        { 6, 1 }, { 7, 1 }, { CRZ_CALL_AMOUNT, 8 }, { CRZ_CALL_BASIS, 4 }, { CRZ_CALL_WEIGHT, 4 }
+        { CRZ_CALL_KIND, 1 }, { CRZ_CALL_ACCOUNT, 1 }, { CRZ_CALL_RECEIPT, 1 }, { CRZ_CALL_CONTRACT, 1 }, { CRZ_CALL_DAYS, 1 },
+        { CRZ_CALL_ZEROS, 1 }, { CRZ_CALL_ZEROS + 1, 1 }, { CRZ_CALL_ZEROS + 2, 1 }, { CRZ_CALL_AMOUNT, 8 }, { CRZ_CALL_BASIS, 4 },
+        { CRZ_CALL_WEIGHT, 4 }
     };
     size_t i = (size_t)below(sizeof fields / sizeof fields[0]);
     put(q->call + fields[i].offset, fields[i].size, edge());
@@ -458,13 +459,15 @@ struct field {
 };
 
 static const struct field header_fields[] = {
-    { 0, 2, 0, 1 }, { 2, 2, 0, 1 }, { 4, 2, 0, 1 }, { CRZ_IMAGE_DAY, 2, 0, 1 }, { 8, 4, 0, 1 }, { 12, 4, 0, 1 }, { 16, 4, 0, 1 },
-    { CRZ_IMAGE_PHASE, 1, 0, 1 }, { 21, 1, 0, 1 }, { 22, 1, 0, 1 }, { 23, 1, 0, 1 }, { CRZ_IMAGE_TOTAL, 8, 0, 1 },
-    { CRZ_IMAGE_ASKS, 4, 4, CRZ_CONTRACTS }
+    { CRZ_IMAGE_ACCOUNT_COUNT, 2, 0, 1 }, { CRZ_IMAGE_RECEIPT_COUNT, 2, 0, 1 }, { CRZ_IMAGE_CONTRACT_COUNT, 2, 0, 1 },
+    { CRZ_IMAGE_DAY, 2, 0, 1 }, { CRZ_IMAGE_ACCOUNT_OFFSET, 4, 0, 1 }, { CRZ_IMAGE_CONTRACT_OFFSET, 4, 0, 1 },
+    { CRZ_IMAGE_RECEIPT_OFFSET, 4, 0, 1 }, { CRZ_IMAGE_PHASE, 1, 0, 1 }, { CRZ_IMAGE_ZEROS, 1, 0, 1 }, { CRZ_IMAGE_ZEROS + 1, 1, 0, 1 },
+    { CRZ_IMAGE_ZEROS + 2, 1, 0, 1 }, { CRZ_IMAGE_TOTAL, 8, 0, 1 }, { CRZ_IMAGE_ASKS, 4, 4, CRZ_CONTRACTS }
 };
 
 static const struct field account_fields[] = {
-    { CRZ_IMAGE_ACCOUNTS, 8, CRZ_ACCOUNT_LENGTH, CRZ_ACCOUNTS }, { CRZ_IMAGE_ACCOUNTS + 8, 8, CRZ_ACCOUNT_LENGTH, CRZ_ACCOUNTS }
+    { CRZ_IMAGE_ACCOUNTS + CRZ_ACCOUNT_FREE, 8, CRZ_ACCOUNT_LENGTH, CRZ_ACCOUNTS },
+    { CRZ_IMAGE_ACCOUNTS + CRZ_ACCOUNT_FROZEN, 8, CRZ_ACCOUNT_LENGTH, CRZ_ACCOUNTS }
 };
 
 static const struct field receipt_fields[] = {
@@ -510,17 +513,17 @@ static void rebook(uint8_t *image)
     uint64_t total = 0;
     unsigned n;
     for (n = 1; n <= CRZ_ACCOUNTS; n++)
-        put(account_in(image, n) + 8, 8, 0);
+        put(account_in(image, n) + CRZ_ACCOUNT_FROZEN, 8, 0);
     for (n = 1; n <= CRZ_RECEIPTS; n++) {
         const uint8_t *receipt = receipt_in(image, n);
-        uint8_t *account, buyer = receipt[CRZ_RECEIPT_BUYER];
+        uint8_t *frozen, buyer = receipt[CRZ_RECEIPT_BUYER];
         if (buyer < 1 || buyer > CRZ_ACCOUNTS)
             continue;
-        account = account_in(image, buyer);
-        put(account + 8, 8, get(account + 8, 8) + held_by(receipt));
+        frozen = account_in(image, buyer) + CRZ_ACCOUNT_FROZEN;
+        put(frozen, 8, get(frozen, 8) + held_by(receipt));
     }
     for (n = 1; n <= CRZ_ACCOUNTS; n++)
-        total += get(account_in(image, n), 8) + get(account_in(image, n) + 8, 8);
+        total += get(account_in(image, n) + CRZ_ACCOUNT_FREE, 8) + get(account_in(image, n) + CRZ_ACCOUNT_FROZEN, 8);
     put(image + CRZ_IMAGE_TOTAL, 8, total);
 }
 
@@ -553,7 +556,7 @@ static void damage_account(uint8_t *image)
     const struct field *f = &account_fields[below(2)];
     size_t offset = f->offset + (size_t)below(plan.accounts) * f->stride;
     uint64_t added = displace(image + offset, f->size, random_word());
-    uint8_t *other = account_in(image, some_account());
+    uint8_t *other = account_in(image, some_account()) + CRZ_ACCOUNT_FREE;
     if (percent(40))
         put(image + CRZ_IMAGE_TOTAL, 8, get(image + CRZ_IMAGE_TOTAL, 8) + added);
     else if (percent(50))
