@@ -89,7 +89,7 @@ static enum status call_zone(const char *path, char **words, int count)
     if (image_read(path, image) != 0 || store_open(&store, path) != 0)
         return BAD_USE;
     enum status status = BAD_USE;
-    if (read_valid(path, image) == 0)
+    if (read_valid(store.path, image) == 0)
         status = make_call(&store, image, call);
     store_close(&store);
     return status;
@@ -210,7 +210,7 @@ static enum status play_zone(const char *path, const char *script_path)
     uint8_t image[CRZ_IMAGE_LENGTH];
     enum status status = BAD_USE;
     if (script_read(&script, script_path) == 0 && image_read(path, image) == 0 && store_open(&store, path) == 0) {
-        if (read_valid(path, image) == 0)
+        if (read_valid(store.path, image) == 0)
             status = play_calls(&store, image, &script);
         store_close(&store);
     }

@@ -1,4 +1,4 @@
-#define _POSIX_C_SOURCE 200809L
+#define _XOPEN_SOURCE 700
 
 #include "store.h"
 
@@ -34,6 +34,13 @@ static char *folder_of(const char *path)
     return joined(path, slash == path ? 1 : (size_t)(slash - path), "");
 }
 
+/* The file behind a link, so that the link stays one. A new zone has no file yet. */
+static char *resolved(const char *path)
+{
+    char *file = realpath(path, NULL);
+    return file == NULL && errno == ENOENT ? joined(path, strlen(path), "") : file;
+}
+
 /* A lock beside the image: the image's own file is another one after each call. */
 static int locked(const char *path)
 {
@@ -50,8 +57,11 @@ static int locked(const char *path)
     return lock;
 }
 
-int store_open(struct store *store, const char *path)
+int store_open(struct store *store, const char *name)
 {
+    char *path = resolved(name);
+    if (path == NULL)
+        return trouble(name, "cannot open");
     char *lock_path = joined(path, strlen(path), ".lock");
     *store = (struct store){.path = path, .next = joined(path, strlen(path), ".next"), .folder = folder_of(path), .lock = -1};
     if (lock_path == NULL || store->next == NULL || store->folder == NULL)
@@ -69,6 +79,7 @@ void store_close(struct store *store)
 {
     if (store->lock >= 0)
         close(store->lock);
+    free(store->path);
     free(store->next);
     free(store->folder);
     *store = (struct store){.lock = -1};
@@ -88,12 +99,26 @@ static int write_whole(int file, const uint8_t *bytes, size_t length)
     return 0;
 }
 
-/* On the disk under its own name before it takes another one's place. */
-static int write_next(const struct store *store, const uint8_t *image)
+/* A file with the old one's mode before it has a byte, so that nobody reads more than before. `old` is NULL for a new zone. */
+static int open_next(const struct store *store, const struct stat *old)
 {
-    int file = open(store->next, O_WRONLY | O_CREAT | O_TRUNC | O_CLOEXEC, 0666);
+    unlink(store->next); /* what a kill has left */
+    int file = open(store->next, O_WRONLY | O_CREAT | O_EXCL | O_CLOEXEC, old == NULL ? 0666 : 0600);
     if (file < 0)
         return trouble(store->next, "cannot open");
+    if (old == NULL || fchmod(file, old->st_mode & 07777) == 0)
+        return file;
+    trouble(store->next, "cannot keep the mode");
+    close(file);
+    return -1;
+}
+
+/* On the disk under its own name before it takes another one's place. */
+static int write_next(const struct store *store, const uint8_t *image, const struct stat *old)
+{
+    int file = open_next(store, old);
+    if (file < 0)
+        return -1;
     int bad = write_whole(file, image, CRZ_IMAGE_LENGTH) != 0 || fsync(file) != 0;
     if (bad)
         trouble(store->next, "cannot write");
@@ -116,7 +141,7 @@ static int keep_names(const struct store *store)
 
 int store_create(const struct store *store, const uint8_t image[CRZ_IMAGE_LENGTH])
 {
-    if (write_next(store, image) != 0)
+    if (write_next(store, image, NULL) != 0)
         return -1;
     int bad = link(store->next, store->path) != 0;
     if (bad)
@@ -127,7 +152,10 @@ int store_create(const struct store *store, const uint8_t image[CRZ_IMAGE_LENGTH
 
 int store_replace(const struct store *store, const uint8_t image[CRZ_IMAGE_LENGTH])
 {
-    if (write_next(store, image) != 0)
+    struct stat old;
+    if (stat(store->path, &old) != 0)
+        return trouble(store->path, "cannot read the mode");
+    if (write_next(store, image, &old) != 0)
         return -1;
     if (rename(store->next, store->path) != 0)
         return trouble(store->path, "cannot put the new image in place");

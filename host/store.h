@@ -7,14 +7,14 @@
 #include "../include/crz.h"
 
 struct store {
-    const char *path;
+    char *path;   /* no link: all names of a zone share its lock */
     char *next;   /* where the new image is written before it takes the old one's place */
     char *folder;
     int lock;     /* one caller at a time */
 };
 
 /* Each returns 0, or -1 after a message on standard error. */
-int store_open(struct store *store, const char *path);
+int store_open(struct store *store, const char *name);
 int store_create(const struct store *store, const uint8_t image[CRZ_IMAGE_LENGTH]);
 int store_replace(const struct store *store, const uint8_t image[CRZ_IMAGE_LENGTH]);
 

@@ -92,11 +92,35 @@ holds "no lot is struck for the mill that withdrew" test "$(grep -c 'struck, buy
 "$crz" show day >said
 holds "the day's end" grep -qF "day 2, afternoon, total 166,000,000 fen" said
 
-# Two callers at once: no call is lost.
+# A call keeps the mode of the image, whatever the caller's own.
+for mode in 600 640 666; do
+    chmod "$mode" zone
+    (umask 027 && "$crz" call zone pay-in account 3 fen 1 >/dev/null)
+    holds "a call keeps mode $mode" test "$(stat -c %a zone)" = "$mode"
+done
+(umask 077 && "$crz" new private)
+holds "a new zone has the caller's mode" test "$(stat -c %a private)" = 600
+
+# A link and the file behind it are one zone: one image, one lock.
+mkdir elsewhere
+"$crz" new elsewhere/linked
+ln -s elsewhere/linked link
+ends 0 "total 5 fen" call link pay-in account 5 fen 5
+ends 0 "total 5 fen" show elsewhere/linked
+ends 0 "total 7 fen" call elsewhere/linked pay-in account 5 fen 2
+ends 0 "total 7 fen" show link
+holds "a link stays one" test -L link
+holds "a link has no lock of its own" test ! -e link.lock -a -e elsewhere/linked.lock
+ends 2 "cannot make a new zone" new link
+ln -s nothing dangling
+ends 2 "cannot make a new zone" new dangling
+
+# Two callers at once: no call is lost, by whatever name.
 "$crz" new shared
 for _ in $(seq 40); do echo "pay-in account 5 fen 1"; done >ones
+ln -s shared shared-too
 "$crz" play shared ones >/dev/null &
-"$crz" play shared ones >/dev/null &
+"$crz" play shared-too ones >/dev/null &
 wait
 ends 0 "total 80 fen" show shared
 
