@@ -13,11 +13,11 @@
 
 enum status { DONE = 0, REFUSED = 1, BAD_USE = 2 };
 
-enum { LONGEST_LINE = 512, MOST_WORDS = 32, LONGEST_MESSAGE = 256 };
+enum { LONGEST_LINE = 510, MOST_WORDS = 32, LONGEST_MESSAGE = 256 };
 
 struct script {
     uint8_t (*calls)[CRZ_CALL_LENGTH];
-    char (*lines)[LONGEST_LINE];
+    char (*lines)[LONGEST_LINE + 1];
     size_t count;
     size_t room;
 };
@@ -149,16 +149,37 @@ static int add_line(struct script *script, char *line, char *message, size_t len
     return call_from_words(script->calls[n], words, count, message, length);
 }
 
+/* Bytes of the next line without its end, one past the longest at most, so that a longer line shows; -1 where there is none. */
+static int read_line(FILE *file, char line[LONGEST_LINE + 2])
+{
+    int length = 0, c = getc(file);
+    if (c == EOF)
+        return -1;
+    for (; c != EOF && c != '\n' && length <= LONGEST_LINE; c = getc(file))
+        line[length++] = (char)c;
+    line[length] = '\0';
+    return length;
+}
+
+/* Words end at a zero byte: what stands behind it would be lost. */
+static int line_fits(const char *line, int length, char *message, size_t message_length)
+{
+    if (length > LONGEST_LINE)
+        snprintf(message, message_length, "the line is longer than %d bytes", LONGEST_LINE);
+    else if (strlen(line) != (size_t)length)
+        snprintf(message, message_length, "the line has a zero byte");
+    else
+        return 1;
+    return 0;
+}
+
 /* The whole script, before its first call is made: a bad line leaves the zone as it was. */
 static int read_lines(struct script *script, FILE *file, const char *path)
 {
-    char line[LONGEST_LINE], message[LONGEST_MESSAGE];
-    for (unsigned number = 1; fgets(line, sizeof line, file) != NULL; number++) {
-        size_t length = strcspn(line, "\n");
-        int whole = line[length] == '\n' || feof(file);
-        line[length] = '\0';
-        snprintf(message, sizeof message, "the line is longer than %d bytes", LONGEST_LINE - 2);
-        if (!whole || add_line(script, line, message, sizeof message) != 0) {
+    char line[LONGEST_LINE + 2], message[LONGEST_MESSAGE];
+    int length = read_line(file, line);
+    for (unsigned number = 1; length >= 0; number++, length = read_line(file, line)) {
+        if (!line_fits(line, length, message, sizeof message) || add_line(script, line, message, sizeof message) != 0) {
             fprintf(stderr, "crz: %s, line %u: %s\n", path, number, message);
             return -1;
         }

@@ -66,6 +66,16 @@ before=$(sha256sum zone)
 ends 2 "script, line 4: 'sell' is no kind of call" play zone script
 holds "a bad line leaves the zone" test "$before" = "$(sha256sum zone)"
 ends 2 "cannot open" play zone nothing
+printf '# remark\npay-in account 1 \0fen 5\n' >script
+ends 2 "script, line 2: the line has a zero byte" play zone script
+printf 'pay-in account 1 fen 5\0' >script
+ends 2 "script, line 1: the line has a zero byte" play zone script
+printf 'pay-in account 1 fen %490d\n' 5 >script
+ends 2 "script, line 1: the line is longer than 510 bytes" play zone script
+holds "bad lines leave the zone" test "$before" = "$(sha256sum zone)"
+printf 'pay-in account 1 fen %489d\ntake-out account 1 fen 5' 5 >script
+ends 0 "accepted: morning, total 1,234,572 fen" play zone script
+ends 0 "total 1,234,567 fen" show zone
 printf 'take-out account 1 fen 5\npay-in account 1 fen 5\n' >script
 ends 1 "refused 11" play zone script
 ends 0 "total 1,234,572 fen" show zone
