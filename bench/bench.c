@@ -2,6 +2,9 @@
  * Time per call of the library and of the plain C ledger (plain.c), through one interface in one run: for each case the least time of
  * many rounds, a round being one call on each of a few images in the same state.
  *
+ * The busy image has 128 lots in all eight states and money in every account. The idle image has one receipt listed and the money for
+ * one bid on it in one account; all else is empty.
+ *
  * bench               the table of times
  * bench LEDGER CASE   one round of one case, to count its instructions: LEDGER is crz or plain, CASE a row of the table
  */
@@ -19,6 +22,7 @@ typedef uint32_t ledger(uint8_t *image, size_t image_len, const uint8_t *call, s
 ledger plain_call;
 
 enum { IMAGES = 16, ROUNDS = 3000, DAY = 5, DEPOSIT = 5000000, PRICE = 15000, WEIGHT = 41237, CONFIRMED = 1000, PAID = 100 };
+enum { LOT = 3, BIDDER = 90 };
 
 struct row {
     const char *name;
@@ -28,13 +32,14 @@ struct row {
     uint32_t number; /* what is returned */
 };
 
-/* On the busy image lot 3 has a standing bid at PRICE, of contract 1; on the idle one it is not registered. */
+/* On the busy image LOT has a standing bid at PRICE, of contract 1; on the idle one it is listed. */
 static const struct row rows[] = {
     {"quote, busy", 1, CRZ_QUOTE, 0, 0, 1, PRICE, CRZ_ACCEPTED},
     {"quote, idle", 0, CRZ_QUOTE, 0, 0, 1, PRICE, CRZ_ACCEPTED},
     {"pay in, busy", 1, CRZ_PAY_IN, 1, 0, 0, 100, CRZ_ACCEPTED},
     {"pay in, idle", 0, CRZ_PAY_IN, 1, 0, 0, 100, CRZ_ACCEPTED},
-    {"limit bid, busy", 1, CRZ_LIMIT_BID, 90, 3, 0, PRICE + 5, CRZ_ACCEPTED},
+    {"limit bid, busy", 1, CRZ_LIMIT_BID, BIDDER, LOT, 0, PRICE + 5, CRZ_ACCEPTED},
+    {"limit bid, idle", 0, CRZ_LIMIT_BID, BIDDER, LOT, 0, PRICE + 5, CRZ_ACCEPTED},
     {"morning close, busy", 1, CRZ_MORNING_CLOSE, 0, 0, 0, 0, CRZ_ACCEPTED},
     {"morning close, idle", 0, CRZ_MORNING_CLOSE, 0, 0, 0, 0, CRZ_ACCEPTED},
     {"refusal 6, busy", 1, CRZ_LODGE, 1, 1, 0, 0, CRZ_WRONG_STATE},
@@ -72,11 +77,11 @@ static void put_trade(uint8_t *receipt, unsigned state, unsigned buyer)
     }
 }
 
-/* Lots in all eight states by turns, contracts changing every eight lots. */
-static void put_receipt(uint8_t *image, unsigned r)
+/* Contracts change every eight lots. */
+static void put_receipt(uint8_t *image, unsigned r, unsigned state)
 {
     uint8_t *receipt = image + CRZ_IMAGE_RECEIPTS + CRZ_RECEIPT_LENGTH * r;
-    unsigned state = r % 8, seller = 1 + r % 48, buyer = 49 + r % 48;
+    unsigned seller = 1 + r % 48, buyer = 49 + r % 48;
     int bought = state == CRZ_STATE_SETTLED || state == CRZ_STATE_FIRST_PAID;
     uint64_t money = held(state, ((uint64_t)PRICE * WEIGHT + 5) / 10);
     receipt[CRZ_RECEIPT_OWNER] = (uint8_t)(bought ? buyer : seller);
@@ -93,16 +98,36 @@ static void put_receipt(uint8_t *image, unsigned r)
     add_to(image + CRZ_IMAGE_TOTAL, money);
 }
 
+static void put_money(uint8_t *image, unsigned account, uint64_t fen)
+{
+    add_to(image + CRZ_IMAGE_ACCOUNTS + CRZ_ACCOUNT_LENGTH * (account - 1) + CRZ_ACCOUNT_FREE, fen);
+    add_to(image + CRZ_IMAGE_TOTAL, fen);
+}
+
+static void fill_accounts(uint8_t *image)
+{
+    for (unsigned a = 1; a <= CRZ_ACCOUNTS; a++)
+        put_money(image, a, 1000000000 + a);
+}
+
+/* Lots in all eight states by turns. */
+static void fill_receipts(uint8_t *image)
+{
+    for (unsigned r = 0; r < CRZ_RECEIPTS; r++)
+        put_receipt(image, r, r % 8);
+}
+
 static void make_image(uint8_t *image, int busy)
 {
     crz_fresh(image, CRZ_IMAGE_LENGTH);
     put_number(image + CRZ_IMAGE_DAY, 2, DAY);
-    for (unsigned a = 0; busy && a < CRZ_ACCOUNTS; a++) {
-        add_to(image + CRZ_IMAGE_ACCOUNTS + CRZ_ACCOUNT_LENGTH * a + CRZ_ACCOUNT_FREE, 1000000000 + a);
-        add_to(image + CRZ_IMAGE_TOTAL, 1000000000 + a);
+    if (busy) {
+        fill_accounts(image);
+        fill_receipts(image);
+        return;
     }
-    for (unsigned r = 0; busy && r < CRZ_RECEIPTS; r++)
-        put_receipt(image, r);
+    put_receipt(image, LOT - 1, CRZ_STATE_LISTED);
+    put_money(image, BIDDER, DEPOSIT);
 }
 
 static void make_call(uint8_t *call, const struct row *row)
