@@ -12,7 +12,7 @@ use Rattle.rules.specs.Events.{Done}
 use Rattle.rules.specs.Order.{Listed}
 use Rattle.rules.specs.Outcome.{refused, accepted, outcome}
 use Rattle.rules.specs.View.{freeAt, frozenAt, receiptAt}
-use Rattle.claims.specs.History.{Answer, refusedWith, entriesOf, Table, history, heldOver, belongs, EachStrikeFair}
+use Rattle.claims.specs.History.{Answer, refusedWith, entriesOf, history, heldOver, belongs, EachStrikeFair}
 
 -- ── A list of calls, the newest first, and the zone after it ───────────────────────────────────
 

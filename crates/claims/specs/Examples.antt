@@ -5,8 +5,6 @@ use mathlib.Core.Path.{_≡_, refl}
 use Prim.Native.Nat.{ℕ, zero, suc}
 use lib.IntN.{ℤ, pos, negsuc}
 use Rattle.units.specs.Examples.{MoneyExamples, money-examples}
-use Rattle.units.specs.Payments.{fen}
-use Rattle.zone.specs.declared.Zone.{Zone}
 use Rattle.zone.specs.Record.{recordOf}
 use Rattle.zone.specs.Valid.{freshZone}
 use Rattle.rules.specs.declared.Call.{Call}

@@ -1,8 +1,7 @@
 -- Calls and answers in words, and lists of calls replayed by computing: what the examples are written with.
 -- Assumes nothing.
-use mathlib.Core.Bool.{Bool, true, false}
 use mathlib.Core.List.{List, [], _∷_}
-use Prim.Native.Nat.{ℕ, zero, suc}
+use Prim.Native.Nat.{ℕ}
 use lib.IntN.{ℤ, pos}
 use Rattle.units.specs.Payments.{unitPrice, payable, fullPayment, firstPayment, restPayment, partPayment, penaltyPassed}
 use Rattle.zone.specs.declared.Zone.{Zone}
@@ -13,7 +12,7 @@ use Rattle.rules.specs.declared.Entry.{Entry}
 use Rattle.rules.specs.Effects.{register, listFor, withdrawListing, limitBid, marketBid, withdrawBid, quoteLot, lodge, closeLot, payFirst, sendInvoice, confirm, dayCloseLot, noRule, ruleOf, opening, firstLot, lotCount, ending, effect}
 use Rattle.rules.specs.Events.{give, take, release, freeze, passed, moved, happen, sweep}
 use Rattle.rules.specs.Numbers.{illFormed, outOfRange, wrongPhase, wrongState, wrongParty, notAbove, noAsk, notPayable, noMoney, aboveLimit, aboveInvoice, number}
-use Rattle.rules.specs.Outcome.{Result, refused, accepted, numberOf, outcome}
+use Rattle.rules.specs.Outcome.{refused, accepted, numberOf, outcome}
 use Rattle.rules.specs.Tables.{nth, put}
 use Rattle.rules.specs.View.{freeAt, frozenAt, receiptAt, askAt, viewOf}
 

@@ -2,7 +2,7 @@
 -- Assumes nothing.
 use mathlib.Core.Bool.{Bool, cond}
 use mathlib.Core.List.{List, [], _∷_, _++_}
-use Prim.Native.Nat.{ℕ, _+_, _-_, _*_}
+use Prim.Native.Nat.{ℕ, _+_, _-_}
 use lib.ListN.{length, getD, drop, replicate}
 use Rattle.wire.specs.LittleEndian.{leAt, leBytes, signed32}
 use Rattle.zone.specs.declared.Zone.{Zone}

@@ -1,7 +1,7 @@
 -- What a call returns, and leaves in the image and in the answer (document 01, "Answers and turned-down calls").
 -- An equation but for one thing, the order of a quote's entries (`Listed`).
 -- Assumes nothing.
-use mathlib.Core.Bool.{Bool, not, cond}
+use mathlib.Core.Bool.{not, cond}
 use mathlib.Core.List.{List}
 use mathlib.Core.Path.{_≡_}
 use Prim.Native.Nat.{ℕ, suc}

@@ -1,9 +1,9 @@
 -- What an accepted call does (document 01, "Calls"): an opening, a rule at the lots that the call names, an ending.
 -- The articles are those of the guideline, source document 002.
 -- Assumes nothing.
-use mathlib.Core.Bool.{Bool, true, false, not, cond, _&&_, _||_}
+use mathlib.Core.Bool.{Bool, true, false, not, cond, _&&_}
 use mathlib.Core.List.{List, [], _∷_}
-use Prim.Native.Nat.{ℕ, zero, suc, _+_, _-_}
+use Prim.Native.Nat.{ℕ, _+_, _-_}
 use lib.Dec.{eqb, leb}
 use lib.ListN.{replicate}
 use Rattle.units.specs.declared.Fen.{Fen}
@@ -11,18 +11,17 @@ use Rattle.units.specs.declared.YuanPerTonne.{YuanPerTonne}
 use Rattle.units.specs.Payments.{fen, deposit, firstPayment, partPayment, penaltyPassed}
 use Rattle.zone.specs.declared.Account.{Account}
 use Rattle.zone.specs.declared.Bid.{Bid}
-use Rattle.zone.specs.declared.Invoices.{Invoices}
 use Rattle.zone.specs.declared.Lot.{Lot}
 use Rattle.zone.specs.declared.Lot.the-variants.{Idle, Listed, BidStands, Struck, Lodged, Settled, FirstPaid, PenaltyDue}
 use Rattle.zone.specs.declared.Receipt.{Receipt}
 use Rattle.zone.specs.declared.Record.{Record}
 use Rattle.zone.specs.declared.Zone.{Zone}
 use Rattle.zone.specs.Held.{full}
-use Rattle.zone.specs.Record.{recordOf, listingOf, bidOf, tradeOf, invoicesOf, noInvoices}
+use Rattle.zone.specs.Record.{recordOf, listingOf, bidOf, tradeOf, noInvoices}
 use Rattle.rules.specs.declared.Call.{Call}
 use Rattle.rules.specs.declared.Entry.{Entry}
 use Rattle.rules.specs.declared.Step.{Step}
-use Rattle.rules.specs.declared.Step.the-variants.{Refused, NoEvent, Event}
+use Rattle.rules.specs.declared.Step.the-variants.{NoEvent, Event}
 use Rattle.rules.specs.declared.View.{View}
 use Rattle.rules.specs.Events.{give, take, sweep, Done}
 use Rattle.rules.specs.Tables.{among, row, put}

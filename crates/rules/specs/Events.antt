@@ -1,6 +1,6 @@
 -- An event at a lot is an entry and the receipt as it is after; the money follows from it. A sweep visits lots in ascending order.
 -- Assumes nothing.
-use mathlib.Core.Bool.{Bool, cond}
+use mathlib.Core.Bool.{cond}
 use mathlib.Core.List.{List, [], _∷_, _++_}
 use Prim.Native.Nat.{ℕ, zero, suc, _+_, _-_}
 use Rattle.units.specs.Payments.{fen}

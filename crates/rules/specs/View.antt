@@ -9,7 +9,6 @@ use Rattle.zone.specs.declared.Receipt.{Receipt}
 use Rattle.zone.specs.declared.Zone.{Zone}
 use Rattle.zone.specs.Record.{recordOf}
 use Rattle.zone.specs.Valid.{nothing, noReceipt}
-use Rattle.rules.specs.declared.Call.{Call}
 use Rattle.rules.specs.declared.View.{View}
 use Rattle.rules.specs.Tables.{nth}
 

@@ -4,7 +4,7 @@ ghost use mathlib.Core.Bool.{true};
 ghost use Prim.Native.Nat.{_≤_, _^_};
 ghost use Rattle.units.specs.Ranges.{within};
 ghost use Rattle.zone.specs.Held.{heldBy};
-ghost use Rattle.zone.specs.Valid.{isAccount, isZero, recordValid};
+ghost use Rattle.zone.specs.Valid.{recordValid};
 ghost use Rattle.rules.specs.Numbers.{brackets, isUsed, unusedZero, inRange, values, illFormed, outOfRange, wrongPhase, wrongState, wrongParty, notAbove, noAsk, notPayable, noMoney, aboveLimit, aboveInvoice, number};
 use crate::Call;
 use crate::View;

@@ -1,4 +1,5 @@
 pub mod Record
 pub mod Held
 pub mod Valid
+pub mod ByState
 pub mod Laws

@@ -1,9 +1,7 @@
 // The zone's values: accounts, receipts and the lots on them. A lot is the sale of one receipt and has its number.
 ghost use mathlib.Core.Path.{_≡_};
-ghost use mathlib.Core.Bool.{true, not, _&&_};
-ghost use lib.Dec.{eqb, leb};
-ghost use Rattle.units.specs.Payments.{payable};
-ghost use Rattle.units.specs.Ranges.{within, isPrice, isBasis};
+ghost use mathlib.Core.Bool.{true, _&&_};
+ghost use Rattle.zone.specs.ByState.{listingFits, listingZero, bidFits, bidZero, dueFits, buyerFits};
 ghost use Prim.Native.Nat.{_≤_};
 ghost use Rattle.zone.specs.Record.{recordOf, flatRecord, receiptOf, noListing, noBid, noInvoices, listingOf, bidOf, tradeOf, invoicesOf};
 ghost use Rattle.zone.specs.Held.{full, holdOf};
@@ -292,9 +290,9 @@ fn is_blank(r: Record) -> bool
         & is_zero(r.basis.0)
 }
 
-// Seller, contract, D and basis of a listing.
-fn listing_in(r: Record) -> bool
-    ensures { λ x. ⌜ x ≡ isAccount (r .seller) && within 1 8 (r .contract) && leb (r .days) 3 && isBasis (r .basis .0) ⌝ }
+// Seller, contract, D and basis are a listing's.
+fn listing_fits(r: Record) -> bool
+    ensures { λ x. ⌜ x ≡ listingFits r ⌝ }
 {
     let basis = r.basis.0;
     is_account(r.seller)
@@ -303,16 +301,16 @@ fn listing_in(r: Record) -> bool
         & units::is_basis(basis)
 }
 
-fn no_listing_in(r: Record) -> bool
-    ensures { λ x. ⌜ x ≡ eqb (r .contract) 0 && eqb (r .days) 0 && isZero (r .basis .0) ⌝ }
+fn listing_is_zero(r: Record) -> bool
+    ensures { λ x. ⌜ x ≡ listingZero r ⌝ }
 {
     let basis = r.basis.0;
     (r.contract == 0) & (r.days == 0) & is_zero(basis)
 }
 
-// Buyer and price of a bid.
-fn bid_in(r: Record) -> bool
-    ensures { λ x. ⌜ x ≡ isAccount (r .buyer) && isPrice (r .price .0) && not (eqb (r .buyer) (r .seller)) && payable (r .price) (r .basis) ⌝ }
+// Buyer and price are a bid's.
+fn bid_fits(r: Record) -> bool
+    ensures { λ x. ⌜ x ≡ bidFits r ⌝ }
 {
     let price = r.price;
     let basis = r.basis;
@@ -322,21 +320,21 @@ fn bid_in(r: Record) -> bool
         & units::is_payable(price, basis)
 }
 
-fn no_bid_in(r: Record) -> bool
-    ensures { λ x. ⌜ x ≡ eqb (r .buyer) 0 && eqb (r .price .0) 0 ⌝ }
+fn bid_is_zero(r: Record) -> bool
+    ensures { λ x. ⌜ x ≡ bidZero r ⌝ }
 {
     (r.buyer == 0) & (r.price.0 == 0)
 }
 
-fn due_in(r: Record) -> bool
-    ensures { λ x. ⌜ x ≡ within 1 30003 (r .due) ⌝ }
+fn due_fits(r: Record) -> bool
+    ensures { λ x. ⌜ x ≡ dueFits r ⌝ }
 {
     (1 <= r.due) & (r.due <= 30003)
 }
 
 // The buyer to whom a penalty is due; the trade's price is gone.
-fn buyer_in(r: Record) -> bool
-    ensures { λ x. ⌜ x ≡ isAccount (r .buyer) && eqb (r .price .0) 0 && not (eqb (r .buyer) (r .seller)) ⌝ }
+fn buyer_fits(r: Record) -> bool
+    ensures { λ x. ⌜ x ≡ buyerFits r ⌝ }
 {
     is_account(r.buyer) & (r.price.0 == 0) & !(r.buyer == r.seller)
 }
@@ -348,16 +346,16 @@ fn state_ok(r: Record) -> bool
 {
     let s = r.state;
     match s {
-        0 => (r.seller == 0) & no_listing_in(r) & no_bid_in(r) & (r.due == 0),
-        1 => listing_in(r) & no_bid_in(r) & (r.due == 0) & (r.owner == r.seller),
-        2 => listing_in(r) & bid_in(r) & (r.due == 0) & (r.owner == r.seller),
-        3 | 4 => listing_in(r) & bid_in(r) & due_in(r) & (r.owner == r.seller),
-        5 | 6 => listing_in(r) & bid_in(r) & due_in(r) & (r.owner == r.buyer),
+        0 => (r.seller == 0) & listing_is_zero(r) & bid_is_zero(r) & (r.due == 0),
+        1 => listing_fits(r) & bid_is_zero(r) & (r.due == 0) & (r.owner == r.seller),
+        2 => listing_fits(r) & bid_fits(r) & (r.due == 0) & (r.owner == r.seller),
+        3 | 4 => listing_fits(r) & bid_fits(r) & due_fits(r) & (r.owner == r.seller),
+        5 | 6 => listing_fits(r) & bid_fits(r) & due_fits(r) & (r.owner == r.buyer),
         _ => {
             is_account(r.seller)
-                & no_listing_in(r)
-                & buyer_in(r)
-                & due_in(r)
+                & listing_is_zero(r)
+                & buyer_fits(r)
+                & due_fits(r)
                 & (r.owner == r.seller)
         }
     }

@@ -40,8 +40,8 @@ unfolding receiptAt
 here c = sym (nth-index _ (c .before .loop .zone .receipts) _ (omega (arith, c .before .before .pre .1 .low (omega arith))))
 
 -- there is room for an entry
-full : (c : tie.In-loop Inv-loop μ-loop) → c .before .loop .count < 128
-full c =
+has-room : (c : tie.In-loop Inv-loop μ-loop) → c .before .loop .count < 128
+has-room c =
     let s = c .before .before in
     let l = c .before .loop in
     room (s .args .c) (s .args .z) (s .args .first) (s .args .more) (s .pre .0) (s .pre .1) (l .i) (c .loop-test .taken) _ (l .inv .1)
@@ -80,13 +80,13 @@ happen-at-requires c κs =
     _ _ _ (here (c .before .before .before .before .before .before .before)) (sym (c .before .before .before .visit .ensures) ∙ c .before .step .given .1)
 
 mul-entries : tie.Need-mul-entries Inv-loop μ-loop
-mul-entries c = omega (arith, full (c .before .before .before .before .before .before .before .before))
+mul-entries c = omega (arith, has-room (c .before .before .before .before .before .before .before .before))
 
 array-set-from-entries : tie.Need-array-set-from-entries Inv-loop μ-loop
-array-set-from-entries c = full (c .before .before .before .before .before .before .before .before)
+array-set-from-entries c = has-room (c .before .before .before .before .before .before .before .before)
 
 add-count : tie.Need-add-count Inv-loop μ-loop
-add-count c = omega (arith, full (c .before .before .before .before .before .before .before .before))
+add-count c = omega (arith, has-room (c .before .before .before .before .before .before .before .before))
 
 enum-told : tie.Need-enum-told Inv-loop μ-loop
 enum-told c = search needs

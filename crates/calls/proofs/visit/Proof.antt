@@ -1,5 +1,4 @@
 -- The rule may be asked, and what it reads is what the definition reads.
-use mathlib.Core.Path.{refl}
 use Rattle.rules.specs.Laws.Ready.{ready-at}
 use Rattle.calls.specs.Laws.Visits.{visit-ready}
 use borrow.Author.Needs.{needs}

@@ -3,14 +3,13 @@
 use mathlib.Core.Bool.{Bool, true, false, not, cond}
 use mathlib.Core.List.{List, [], _∷_, map}
 use mathlib.Core.Path.{_≡_, refl, sym, ap, _∙_, subst}
-use Prim.Native.Nat.{ℕ, zero, suc, _+_, _^_, _≤_, _<_}
+use Prim.Native.Nat.{ℕ, zero, suc, _^_, _<_}
 use native.Mathlib.Nat.{le-of-suc-le-suc, not-suc-le-zero}
 use native.Mathlib.Omega.{arith}
-use borrow.Author.Tests.{not-false}
 use lib.Dec.{eqb, ltb}
-use lib.ListN.{length, getD}
+use lib.ListN.{length}
 use Rattle.zone.specs.declared.Zone.{Zone}
-use Rattle.zone.specs.Valid.{validZone, freshZone}
+use Rattle.zone.specs.Valid.{freshZone}
 use Rattle.rules.specs.declared.Call.{Call}
 use Rattle.rules.specs.declared.Entry.{Entry}
 use Rattle.rules.specs.Effects.{effect}
@@ -22,10 +21,9 @@ use Rattle.image.specs.Image.{validImage, decode, encode}
 use Rattle.image.specs.Laws.RoundTrip.{decode-encode, valid-encode, valid-decode, fresh-valid, decode-accounts, decode-receipts, decode-asks}
 use Rattle.crz.specs.Buffers.{callIn, entriesIn, acceptedAnswer}
 use Rattle.crz.specs.Laws.ReadBack.{Numbered, entries-back}
-use Rattle.crz.specs.Returned.{numberOr, numberWith, numberFor, Left, turnedDown, carriedOut, Returned}
-use Rattle.claims.specs.Demand.{Holds}
-use Rattle.claims.specs.History.{Answer, refusedWith, entriesOf}
-use Rattle.claims.specs.Kept.{EntryFits, Ascending, Kept}
+use Rattle.crz.specs.Returned.{numberOr, numberWith, numberFor, Left, turnedDown, carriedOut}
+use Rattle.claims.specs.History.{entriesOf}
+use Rattle.claims.specs.Kept.{Ascending, Kept}
 use Rattle.claims.specs.Laws.Demand.{After, after-refused, after-accepted, after-fresh, holds}
 use Rattle.claims.specs.Laws.Kept.{keeps-valid}
 use Rattle.claims.specs.OnBytes.{Exchange, MadeOn, start, next, fed, KeepsImage, ImageKept, Demand3OnBytes}

@@ -1,17 +1,16 @@
 -- The entries of an answer, read back.
 -- Assumes nothing.
 use mathlib.Core.Bool.{Bool}
-use mathlib.Core.List.{List, [], _∷_, _++_, append-assoc}
+use mathlib.Core.List.{List, [], _++_, append-assoc}
 use mathlib.Core.Path.{_≡_, refl, sym, ap, _∙_}
-use Prim.Native.Nat.{ℕ, zero, suc, _+_, _-_, _*_, _^_, _≤_, _<_}
-use native.Mathlib.Omega.{arith}
+use Prim.Native.Nat.{ℕ, _+_, _-_, _^_, _<_}
 use lib.ListN.{length, getD, drop, replicate}
 use Rattle.wire.specs.LittleEndian.{leAt, leBytes}
 use Rattle.wire.specs.Laws.Bytes.{leAt-leBytes}
 use Rattle.zone.specs.declared.Zone.{Zone}
 use Rattle.rules.specs.declared.Entry.{Entry}
 use Rattle.image.specs.Table.{table, tableBytes, recordAt}
-use Rattle.image.specs.Laws.Table.{is-table, table-cong, record-back}
+use Rattle.image.specs.Laws.Table.{is-table, record-back}
 use Rattle.crz.specs.Buffers.{entryBytes, entryIn, entriesIn, headerOf, acceptedBytes, acceptedAnswer, filled}
 use Rattle.crz.specs.Laws.Answer.{entry-wide, header-wide}
 

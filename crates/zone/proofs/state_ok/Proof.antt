@@ -5,92 +5,92 @@ use borrow.Author.Needs.{needs}
 use Rattle.zone.proofs.state_ok.Statement.{statement}
 use Rattle.zone.proofs.state_ok.Tie as tie
 
-no-listing-in-requires : tie.Need-no-listing-in-requires
-no-listing-in-requires c κs = search needs
+listing-is-zero-requires : tie.Need-listing-is-zero-requires
+listing-is-zero-requires c κs = search needs
 
-no-bid-in-requires : tie.Need-no-bid-in-requires
-no-bid-in-requires c κs = search needs
+bid-is-zero-requires : tie.Need-bid-is-zero-requires
+bid-is-zero-requires c κs = search needs
 
-listing-in-requires : tie.Need-listing-in-requires
-listing-in-requires c κs = search needs
+listing-fits-requires : tie.Need-listing-fits-requires
+listing-fits-requires c κs = search needs
 
-no-bid-in-requires-2 : tie.Need-no-bid-in-requires-2
-no-bid-in-requires-2 c κs = search needs
+bid-is-zero-requires-2 : tie.Need-bid-is-zero-requires-2
+bid-is-zero-requires-2 c κs = search needs
 
-listing-in-requires-2 : tie.Need-listing-in-requires-2
-listing-in-requires-2 c κs = search needs
+listing-fits-requires-2 : tie.Need-listing-fits-requires-2
+listing-fits-requires-2 c κs = search needs
 
-bid-in-requires : tie.Need-bid-in-requires
-bid-in-requires c κs = search needs
+bid-fits-requires : tie.Need-bid-fits-requires
+bid-fits-requires c κs = search needs
 
-listing-in-requires-3 : tie.Need-listing-in-requires-3
-listing-in-requires-3 c κs = search needs
+listing-fits-requires-3 : tie.Need-listing-fits-requires-3
+listing-fits-requires-3 c κs = search needs
 
-bid-in-requires-2 : tie.Need-bid-in-requires-2
-bid-in-requires-2 c κs = search needs
+bid-fits-requires-2 : tie.Need-bid-fits-requires-2
+bid-fits-requires-2 c κs = search needs
 
-due-in-requires : tie.Need-due-in-requires
-due-in-requires c κs = search needs
+due-fits-requires : tie.Need-due-fits-requires
+due-fits-requires c κs = search needs
 
-listing-in-requires-4 : tie.Need-listing-in-requires-4
-listing-in-requires-4 c κs = search needs
+listing-fits-requires-4 : tie.Need-listing-fits-requires-4
+listing-fits-requires-4 c κs = search needs
 
-bid-in-requires-3 : tie.Need-bid-in-requires-3
-bid-in-requires-3 c κs = search needs
+bid-fits-requires-3 : tie.Need-bid-fits-requires-3
+bid-fits-requires-3 c κs = search needs
 
-due-in-requires-2 : tie.Need-due-in-requires-2
-due-in-requires-2 c κs = search needs
+due-fits-requires-2 : tie.Need-due-fits-requires-2
+due-fits-requires-2 c κs = search needs
 
 is-account-requires : tie.Need-is-account-requires
 is-account-requires c κs = search needs
 
-no-listing-in-requires-2 : tie.Need-no-listing-in-requires-2
-no-listing-in-requires-2 c κs = search needs
+listing-is-zero-requires-2 : tie.Need-listing-is-zero-requires-2
+listing-is-zero-requires-2 c κs = search needs
 
-buyer-in-requires : tie.Need-buyer-in-requires
-buyer-in-requires c κs = search needs
+buyer-fits-requires : tie.Need-buyer-fits-requires
+buyer-fits-requires c κs = search needs
 
-due-in-requires-3 : tie.Need-due-in-requires-3
-due-in-requires-3 c κs = search needs
+due-fits-requires-3 : tie.Need-due-fits-requires-3
+due-fits-requires-3 c κs = search needs
 
 returns : tie.Need-returns
-returns c = rw (c .before .before .no-listing-in .ensures, c .before .no-bid-in .ensures) (idle (c .before .before .before .before .before .args .r) (c .before .before .before .before .match .keys1))
+returns c = rw (c .before .before .listing-is-zero .ensures, c .before .bid-is-zero .ensures) (idle (c .before .before .before .before .before .args .r) (c .before .before .before .before .match .keys1))
 
 returns-2 : tie.Need-returns-2
-returns-2 c = rw (c .before .before .before .listing-in .ensures, c .before .before .no-bid-in2 .ensures) (listed (c .before .before .before .before .before .args .r) (c .before .before .before .before .match .keys2))
+returns-2 c = rw (c .before .before .before .listing-fits .ensures, c .before .before .bid-is-zero2 .ensures) (listed (c .before .before .before .before .before .args .r) (c .before .before .before .before .match .keys2))
 
 returns-3 : tie.Need-returns-3
-returns-3 c = rw (c .before .before .before .listing-in2 .ensures, c .before .before .bid-in .ensures) (standing (c .before .before .before .before .before .args .r) (c .before .before .before .before .match .keys3))
+returns-3 c = rw (c .before .before .before .listing-fits2 .ensures, c .before .before .bid-fits .ensures) (standing (c .before .before .before .before .before .args .r) (c .before .before .before .before .match .keys3))
 
 returns-4 : tie.Need-returns-4
-returns-4 c = rw (c .before .before .before .listing-in3 .ensures, c .before .before .bid-in2 .ensures, c .before .due-in .ensures) (struck (c .before .before .before .before .before .before .args .r) (omega arith) (omega arith))
+returns-4 c = rw (c .before .before .before .listing-fits3 .ensures, c .before .before .bid-fits2 .ensures, c .before .due-fits .ensures) (struck (c .before .before .before .before .before .before .args .r) (omega arith) (omega arith))
 
 returns-5 : tie.Need-returns-5
-returns-5 c = rw (c .before .before .before .listing-in4 .ensures, c .before .before .bid-in3 .ensures, c .before .due-in2 .ensures) (bought (c .before .before .before .before .before .before .before .args .r) (omega arith) (omega arith))
+returns-5 c = rw (c .before .before .before .listing-fits4 .ensures, c .before .before .bid-fits3 .ensures, c .before .due-fits2 .ensures) (bought (c .before .before .before .before .before .before .before .args .r) (omega arith) (omega arith))
 
 returns-6 : tie.Need-returns-6
-returns-6 c = rw (c .before .before .before .before .is-account .ensures, c .before .before .before .no-listing-in2 .ensures, c .before .before .buyer-in .ensures, c .before .due-in3 .ensures) (owing (c .before .before .before .before .before .before .before .before .args .r) (omega arith))
+returns-6 c = rw (c .before .before .before .before .is-account .ensures, c .before .before .before .listing-is-zero2 .ensures, c .before .before .buyer-fits .ensures, c .before .due-fits3 .ensures) (owing (c .before .before .before .before .before .before .before .before .args .r) (omega arith))
 
 pub state-ok-spec : {M : Type 1} → statement M
 state-ok-spec =
     tie.close
     (tie.spec
-    no-listing-in-requires
-    no-bid-in-requires
-    listing-in-requires
-    no-bid-in-requires-2
-    listing-in-requires-2
-    bid-in-requires
-    listing-in-requires-3
-    bid-in-requires-2
-    due-in-requires
-    listing-in-requires-4
-    bid-in-requires-3
-    due-in-requires-2
+    listing-is-zero-requires
+    bid-is-zero-requires
+    listing-fits-requires
+    bid-is-zero-requires-2
+    listing-fits-requires-2
+    bid-fits-requires
+    listing-fits-requires-3
+    bid-fits-requires-2
+    due-fits-requires
+    listing-fits-requires-4
+    bid-fits-requires-3
+    due-fits-requires-2
     is-account-requires
-    no-listing-in-requires-2
-    buyer-in-requires
-    due-in-requires-3
+    listing-is-zero-requires-2
+    buyer-fits-requires
+    due-fits-requires-3
     returns
     returns-2
     returns-3

@@ -1,4 +1,3 @@
-use mathlib.Core.Path.{refl}
 use native.Mathlib.Omega.{arith}
 use Rattle.rules.specs.Laws.Funded.{pass-free, hold-free, all-released, all-taken, all-given}
 use borrow.Author.Needs.{needs}

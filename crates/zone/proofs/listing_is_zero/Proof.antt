@@ -4,8 +4,8 @@ use mir.Syntax.{w32}
 use mir.Val.{toZ, ofZ}
 use mir.Facts.{toZ-ofZ}
 use borrow.Author.Needs.{needs}
-use Rattle.zone.proofs.no_listing_in.Statement.{statement}
-use Rattle.zone.proofs.no_listing_in.Tie as tie
+use Rattle.zone.proofs.listing_is_zero.Statement.{statement}
+use Rattle.zone.proofs.listing_is_zero.Tie as tie
 
 is-zero-requires : tie.Need-is-zero-requires
 is-zero-requires c κs = search needs
@@ -17,5 +17,5 @@ kept c = toZ-ofZ (search needs)
 returns : tie.Need-returns
 returns c = rw (c .is-zero .ensures, kept (c .before .before .before .before))
 
-pub no-listing-in-spec : {M : Type 1} → statement M
-no-listing-in-spec = tie.close (tie.spec is-zero-requires returns)
+pub listing-is-zero-spec : {M : Type 1} → statement M
+listing-is-zero-spec = tie.close (tie.spec is-zero-requires returns)

@@ -4,8 +4,8 @@ use mir.Syntax.{w32}
 use mir.Val.{toZ, ofZ}
 use mir.Facts.{toZ-ofZ}
 use borrow.Author.Needs.{needs}
-use Rattle.zone.proofs.listing_in.Statement.{statement}
-use Rattle.zone.proofs.listing_in.Tie as tie
+use Rattle.zone.proofs.listing_fits.Statement.{statement}
+use Rattle.zone.proofs.listing_fits.Tie as tie
 
 is-account-requires : tie.Need-is-account-requires
 is-account-requires c κs = search needs
@@ -21,5 +21,5 @@ returns : tie.Need-returns
 returns c =
     rw (c .before .before .before .before .is-account .ensures, c .is-basis .ensures, kept (c .before .before .before .before .before .before))
 
-pub listing-in-spec : {M : Type 1} → statement M
-listing-in-spec = tie.close (tie.spec is-account-requires is-basis-requires returns)
+pub listing-fits-spec : {M : Type 1} → statement M
+listing-fits-spec = tie.close (tie.spec is-account-requires is-basis-requires returns)

@@ -1,7 +1,7 @@
 -- Each part is a test of its own.
 use borrow.Author.Needs.{needs}
-use Rattle.zone.proofs.buyer_in.Statement.{statement}
-use Rattle.zone.proofs.buyer_in.Tie as tie
+use Rattle.zone.proofs.buyer_fits.Statement.{statement}
+use Rattle.zone.proofs.buyer_fits.Tie as tie
 
 is-account-requires : tie.Need-is-account-requires
 is-account-requires c κs = search needs
@@ -9,5 +9,5 @@ is-account-requires c κs = search needs
 returns : tie.Need-returns
 returns c = rw (c .before .before .is-account .ensures)
 
-pub buyer-in-spec : {M : Type 1} → statement M
-buyer-in-spec = tie.close (tie.spec is-account-requires returns)
+pub buyer-fits-spec : {M : Type 1} → statement M
+buyer-fits-spec = tie.close (tie.spec is-account-requires returns)

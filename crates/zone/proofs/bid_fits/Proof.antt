@@ -1,7 +1,7 @@
 -- Each part is a test of its own.
 use borrow.Author.Needs.{needs}
-use Rattle.zone.proofs.bid_in.Statement.{statement}
-use Rattle.zone.proofs.bid_in.Tie as tie
+use Rattle.zone.proofs.bid_fits.Statement.{statement}
+use Rattle.zone.proofs.bid_fits.Tie as tie
 
 is-account-requires : tie.Need-is-account-requires
 is-account-requires c κs = search needs
@@ -18,7 +18,7 @@ is-payable-requires c κs = search needs
 returns : tie.Need-returns
 returns c = rw (c .before .before .before .before .is-account .ensures, c .before .before .is-price .ensures, c .is-payable .ensures)
 
-pub bid-in-spec : {M : Type 1} → statement M
-bid-in-spec =
+pub bid-fits-spec : {M : Type 1} → statement M
+bid-fits-spec =
     tie.close
     (tie.spec is-account-requires cast-is-price is-price-requires is-payable-requires returns)
