@@ -3,6 +3,8 @@
 use mathlib.Core.Bool.{Bool, cond}
 use mathlib.Core.List.{List, [], _∷_, _++_}
 use Prim.Native.Nat.{ℕ, _+_, _-_}
+use lib.Dec.{eqb}
+use lib.IntN.{pos}
 use lib.ListN.{length, getD, drop, replicate}
 use Rattle.wire.specs.LittleEndian.{leAt, leBytes, signed32}
 use Rattle.zone.specs.declared.Zone.{Zone}
@@ -27,6 +29,15 @@ callIn b =
       basis = signed32 (leAt 4 b 16);
       weight = leAt 4 b 20;
     }
+
+-- no call, by its kind
+abbrev pub noCall : Call
+noCall =
+    record { kind = 0; account = 0; receipt = 0; contract = 0; days = 0; spare = 0; amount = 0; basis = pos 0; weight = 0 }
+
+-- what the code makes of a record of any length
+unfoldable pub callOr : List ℕ → Call
+callOr b = cond (eqb (length b) callLength) (callIn b) noCall
 
 -- "zeros to byte 1,040"
 abbrev pub answerLength : ℕ

@@ -10,9 +10,9 @@ ghost use Rattle.rules.specs.Outcome.{numberOf};
 ghost use Rattle.rules.specs.Sized.{Sized};
 ghost use Rattle.image.specs.Image.{encode};
 ghost use Rattle.image.specs.Table.{tableBytes};
-ghost use Rattle.crz.specs.Buffers.{callIn, entryBytes, headerOf, refusedAnswer, acceptedAnswer};
+ghost use Rattle.crz.specs.Buffers.{callIn, callOr, entryBytes, headerOf, refusedAnswer, acceptedAnswer};
 ghost use Rattle.crz.specs.Fresh.{freshEntry};
-ghost use Rattle.crz.specs.Returned.{numberOr, refusal, Returned, ReturnedWith};
+ghost use Rattle.crz.specs.Returned.{Returned, ReturnedWith};
 use calls::Swept;
 use rules::Call;
 use rules::Entry;
@@ -45,6 +45,26 @@ fn call_in(s: &[u8]) -> Call
         basis: basis,
         weight: weight,
     }
+}
+
+// A record of another length than 24 is no call: its kind is 0, which number 3 refuses.
+fn read_call(s: &[u8]) -> Call
+    ensures { λ r. ⌜ r ≡ callOr (now (s .entry)) ⌝ }
+{
+    if s.len() != 24 {
+        return Call {
+            kind: 0,
+            account: 0,
+            receipt: 0,
+            contract: 0,
+            days: 0,
+            spare: 0,
+            amount: 0,
+            basis: 0,
+            weight: 0,
+        };
+    }
+    call_in(s)
 }
 
 // A refusal: the number, and zeros behind it.
@@ -163,29 +183,12 @@ pub fn make_call(image: &mut [u8], c: Call, answer: &mut [u8]) -> u32
     carry_out(image, answer, z, c)
 }
 
-// A record that is no call: 3, unless a buffer is refused before it.
-fn reject_record(image: &[u8], answer: &mut [u8]) -> u32
-    ensures { λ r. ⌜ (r ≡ numberOr (now (image .entry)) (now (answer .entry)) 3) × (now (answer .exit) ≡ refusal r (now (answer .entry))) ⌝ }
-{
-    if answer.len() < 1040 {
-        return 1;
-    }
-    let reading = image::read_image(image);
-    if !reading.ok {
-        return refuse(answer, 2);
-    }
-    refuse(answer, 3)
-}
-
 // Makes a call on an image. Returns 0 and writes image and answer, or a refusal's number: 1 writes nothing, any other fills the answer.
 #[no_mangle]
 pub extern "C" fn crz_call(image: &mut [u8], call: &[u8], answer: &mut [u8]) -> u32
     ensures { λ r. ⌜ Returned (now (image .entry)) (now (call .entry)) (now (answer .entry)) r (now (image .exit)) (now (answer .exit)) ⌝ }
 {
-    if call.len() != 24 {
-        return reject_record(image, answer);
-    }
-    make_call(image, call_in(call), answer)
+    make_call(image, read_call(call), answer)
 }
 
 // Writes a fresh image and returns 0; a buffer of another length than 5,696 is left as it is, with 2.

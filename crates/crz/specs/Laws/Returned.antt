@@ -2,23 +2,24 @@
 -- Assumes nothing.
 use mathlib.Core.Bool.{Bool, true, false, not, cond}
 use mathlib.Core.List.{List}
-use mathlib.Core.Path.{_≡_, refl, sym, _∙_, subst}
+use mathlib.Core.Path.{_≡_, refl, sym, ap, _∙_, subst}
 use Prim.Native.Nat.{ℕ, zero, suc, _≤_, _<_}
 use native.Mathlib.Omega.{arith}
-use borrow.Author.Tests.{lt-ltb, le-ltb, eq-eqb, ne-eqb, eqb-true}
-use lib.Dec.{ltb}
+use borrow.Author.Tests.{lt-ltb, le-ltb, ne-eqb, eqb-true}
+use lib.Dec.{eqb, ltb}
 use lib.ListN.{length}
 use Rattle.zone.specs.declared.Zone.{Zone}
 use Rattle.zone.specs.Laws.Tests.{both}
 use Rattle.zone.specs.Valid.{validZone}
 use Rattle.rules.specs.declared.Call.{Call}
 use Rattle.rules.specs.Effects.{effect}
+use Rattle.rules.specs.Numbers.{illFormed, number}
 use Rattle.rules.specs.Order.{asRuled}
 use Rattle.rules.specs.Outcome.{numberOf}
 use Rattle.rules.specs.Sized.{Sized}
 use Rattle.image.specs.Image.{validImage, decode, encode}
 use Rattle.image.specs.Laws.RoundTrip.{decode-accounts, decode-receipts, decode-asks, valid-decode}
-use Rattle.crz.specs.Buffers.{callIn, refusedAnswer, acceptedAnswer}
+use Rattle.crz.specs.Buffers.{callIn, noCall, callOr, refusedAnswer, acceptedAnswer}
 use Rattle.crz.specs.Returned.{numberOr, numberWith, numberFor, refusal, Left, turnedDown, carriedOut, ReturnedWith, Returned}
 
 -- ── The number ─────────────────────────────────────────────────────────────────────────────────
@@ -93,11 +94,15 @@ module _ (image : List ℕ) (c : Call) (answer : List ℕ) (r : ℕ) where
         left = rw (z, ei, ea) (carriedOut (effect (decode image) c .entries) asRuled);
       }
 
-module _ (image call answer : List ℕ) (r : ℕ) (image′ answer′ : List ℕ) where
-  -- a record of 24 bytes is the call of its fields
-  pub returned-record : length call ≡ 24 → ReturnedWith image (callIn call) answer r image′ answer′ → Returned image call answer r image′ answer′
-  unfolding numberFor
-  returned-record h R = record { is = R .is ∙ rw (eq-eqb _ _ h); left = R .left }
+-- ── A record of any length ─────────────────────────────────────────────────────────────────────
+
+no-call-number : (z : Zone) → numberOf z noCall ≡ 3
+unfolding numberOf number illFormed
+no-call-number z = refl
+
+no-call-with : (image answer : List ℕ) → numberWith image noCall answer ≡ numberOr image answer 3
+unfolding numberWith
+no-call-with image answer = ap (numberOr image answer) (no-call-number (decode image))
 
 -- 3 is refused, if nothing before it is
 never-done : (image answer : List ℕ) (r : ℕ) → r ≡ numberOr image answer 3 → r ≡ 0 → ⊥
@@ -109,9 +114,20 @@ never-done image answer r is z = go (ltb (length answer) 1040) (validImage image
     go false true q = omega arith
     go false false q = omega arith
 
--- any other record is refused
-pub returned-rejected : (image call answer : List ℕ) (r : ℕ) (answer′ : List ℕ) → (length call ≡ 24 → ⊥) → r ≡ numberOr image answer 3
-    → answer′ ≡ refusal r answer → Returned image call answer r image answer′
-unfolding numberFor
-returned-rejected image call answer r answer′ h is e =
-    record { is = is ∙ rw (ne-eqb _ _ h); left = refused-left image (callIn call) answer r answer′ (never-done image answer r is) e }
+-- a refusal leaves the same behind whatever the call
+left-same : {image answer image′ answer′ : List ℕ} {r : ℕ} (b c : Call) → Left image b answer r image′ answer′ → (r ≡ 0 → ⊥)
+    → Left image c answer r image′ answer′
+left-same b c (turnedDown n) h = turnedDown n
+left-same b c (carriedOut es l) h = absurd (h refl)
+
+module _ (image call answer : List ℕ) (r : ℕ) (image′ answer′ : List ℕ) where
+  pub returned-record : ReturnedWith image (callOr call) answer r image′ answer′ → Returned image call answer r image′ answer′
+  unfolding numberFor callOr
+  returned-record = go (eqb (length call) 24) refl
+    where
+      go : (b : Bool) → eqb (length call) 24 ≡ b → ReturnedWith image (cond b (callIn call) noCall) answer r image′ answer′
+          → Returned image call answer r image′ answer′
+      go true e R = record { is = R .is ∙ rw e; left = R .left }
+      go false e R =
+          let is : r ≡ numberOr image answer 3 = R .is ∙ no-call-with image answer in
+          record { is = is ∙ rw e; left = left-same noCall (callIn call) (R .left) (never-done image answer r is) }
