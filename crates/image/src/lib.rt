@@ -2,7 +2,7 @@
 ghost use mathlib.Core.Path.{_≡_};
 ghost use mathlib.Core.Bool.{true, cond};
 ghost use Prim.Native.Nat.{_+_, _*_, _≤_, _<_, _^_, min};
-ghost use lib.ListN.{length};
+ghost use lib.ListN.{length, take, drop};
 ghost use lib.Seq.{sets};
 ghost use Rattle.zone.specs.Held.{holdOf};
 ghost use Rattle.zone.specs.Valid.{recordValid, askOk, all};
@@ -295,15 +295,12 @@ fn header_bytes(day: u16, afternoon: bool, total: u64) -> [u8; 32]
     ]
 }
 
-fn record_bytes(r: Record) -> [u8; 32]
-    ensures { λ a. ⌜ a ≡ recordBytes r ⌝ }
+// A record's first sixteen bytes: its parties, its days, weight and basis.
+fn record_start(r: Record) -> [u8; 16]
+    ensures { λ a. ⌜ a ≡ take 16 (recordBytes r) ⌝ }
 {
     let b = wire::bits(r.basis.0);
     let w = r.weight.0;
-    let p = r.price.0;
-    let pending = r.pending.0;
-    let confirmed = r.confirmed.0;
-    let paid = r.paid.0;
     [
         r.owner,
         r.state,
@@ -321,6 +318,18 @@ fn record_bytes(r: Record) -> [u8; 32]
         (b / 256 % 256) as u8,
         (b / 256 / 256 % 256) as u8,
         (b / 256 / 256 / 256 % 256) as u8,
+    ]
+}
+
+// The sixteen behind them: price and invoices.
+fn record_end(r: Record) -> [u8; 16]
+    ensures { λ a. ⌜ a ≡ drop 16 (recordBytes r) ⌝ }
+{
+    let p = r.price.0;
+    let pending = r.pending.0;
+    let confirmed = r.confirmed.0;
+    let paid = r.paid.0;
+    [
         (p % 256) as u8,
         (p / 256 % 256) as u8,
         (p / 256 / 256 % 256) as u8,
@@ -352,8 +361,10 @@ fn put_record(image: &mut [u8], at: usize, r: Record)
     requires { ⌜ at + 32 ≤ length (now image) ⌝ }
     ensures { λ _. ⌜ now (image .exit) ≡ sets (now (image .entry)) at (recordBytes r) ⌝ }
 {
-    let b = record_bytes(r);
-    wire::put_run(image, at, &b);
+    let start = record_start(r);
+    wire::put_run(image, at, &start);
+    let end = record_end(r);
+    wire::put_run(image, at + 16, &end);
 }
 
 fn put_accounts(image: &mut [u8], a: [Account; 96])
