@@ -10,7 +10,7 @@ use Rattle.zone.specs.Valid.{freshZone}
 use Rattle.rules.specs.declared.Call.{Call}
 use Rattle.rules.specs.Tables.{nth}
 use Rattle.rules.specs.View.{freeAt, receiptAt}
-use Rattle.claims.specs.Words.{payIn, registers, lists, bids, bidsMarket, quote, lodges, morningClose, firstPaid, invoices, confirms, dayClose, Said, turnedDown, silent, says, replay, zoneAfter}
+use Rattle.claims.specs.Words.{payIn, registers, lists, bids, bidsMarket, quote, lodges, morningClose, firstPaid, invoices, confirms, dayClose, Said, turnedDown, silent, says, made, replay, zoneAfter}
 
 -- Ginner 1 registers receipt 7 and lists it at contract 1; mill 2 has paid in.
 abbrev market : ℕ → ℤ → ℕ → ℕ → List Call
@@ -73,7 +73,7 @@ pub record FourteenExamples : Type 0 where
       ≡ opened ++ (silent ∷ says 7 4 2 1 15000 ∷ says 7 6 2 1 15000 ∷ says 7 13 1 2 0 ∷ silent ∷ says 7 15 1 2 1200000 ∷ [])
 
 pub fourteen-examples : FourteenExamples
-unfolding replay zoneAfter freshZone recordOf receiptAt freeAt nth
+unfolding replay zoneAfter made freshZone recordOf receiptAt freeAt nth
 fourteen-examples =
     record {
       money = money-examples;

@@ -9,7 +9,7 @@ use Rattle.zone.specs.Valid.{freshZone}
 use Rattle.rules.specs.declared.Call.{Call}
 use Rattle.rules.specs.Tables.{nth}
 use Rattle.rules.specs.View.{freeAt, frozenAt, receiptAt}
-use Rattle.claims.specs.Words.{payIn, registers, lists, bids, bidsMarket, withdrawsBid, quote, Said, turnedDown, silent, says, replay, zoneAfter}
+use Rattle.claims.specs.Words.{payIn, registers, lists, bids, bidsMarket, withdrawsBid, quote, Said, turnedDown, silent, says, made, replay, zoneAfter}
 
 -- ginner 1 lists receipt 7 at contract 1; mills 2 and 3 have paid in one deposit each
 abbrev market : List Call
@@ -45,7 +45,7 @@ pub record FourTraps : Type 0 where
   pub no-ask-buyer : buyerAfter (bids 2 7 15000 ∷ bidsMarket 3 7 ∷ []) ≡ 2
 
 pub four-traps : FourTraps
-unfolding replay zoneAfter freshZone recordOf receiptAt freeAt frozenAt nth
+unfolding replay zoneAfter made freshZone recordOf receiptAt freeAt frozenAt nth
 four-traps =
     record {
       withdrawn = refl;

@@ -94,13 +94,20 @@ says lot outcome from to number = listing (entry lot outcome from to number ∷ 
 
 -- ── Calls one after the other ──────────────────────────────────────────────────────────────────
 
-unfoldable pub replay : List Call → Zone → List Said
+-- the answer, and the zone after it
+unfoldable pub made : Zone → Call → Said × Zone
 unfolding outcome numberOf number illFormed outOfRange wrongPhase wrongState wrongParty notAbove noAsk notPayable noMoney aboveLimit aboveInvoice effect opening ending firstLot lotCount ruleOf register listFor withdrawListing limitBid marketBid withdrawBid quoteLot lodge closeLot payFirst sendInvoice confirm dayCloseLot noRule give take release freeze passed moved happen sweep nth put freeAt frozenAt receiptAt askAt viewOf share held full heldBy recordOf unitPrice payable fullPayment firstPayment restPayment partPayment penaltyPassed
+made z c = elim (outcome z c) [ refused n ↦ (turnedDown n, z) | accepted d ↦ (listing (d .entries), d .zone) ]
+
+unfoldable pub replay : List Call → Zone → List Said
+unfolding made
 replay [] z = []
-replay (c ∷ cs) z = elim (outcome z c) [ refused n ↦ turnedDown n ∷ replay cs z | accepted d ↦ listing (d .entries) ∷ replay cs (d .zone) ]
+replay (c ∷ cs) z =
+    let m = made z c in
+    m .0 ∷ replay cs (m .1)
 
 -- the zone after the calls
 unfoldable pub zoneAfter : List Call → Zone → Zone
-unfolding outcome numberOf number illFormed outOfRange wrongPhase wrongState wrongParty notAbove noAsk notPayable noMoney aboveLimit aboveInvoice effect opening ending firstLot lotCount ruleOf register listFor withdrawListing limitBid marketBid withdrawBid quoteLot lodge closeLot payFirst sendInvoice confirm dayCloseLot noRule give take release freeze passed moved happen sweep nth put freeAt frozenAt receiptAt askAt viewOf share held full heldBy recordOf unitPrice payable fullPayment firstPayment restPayment partPayment penaltyPassed
+unfolding made
 zoneAfter [] z = z
-zoneAfter (c ∷ cs) z = elim (outcome z c) [ refused n ↦ zoneAfter cs z | accepted d ↦ zoneAfter cs (d .zone) ]
+zoneAfter (c ∷ cs) z = zoneAfter cs (made z c .1)
