@@ -280,8 +280,8 @@ pub fn number_of(z: Zone, c: Call) -> u8
     ensures { λ r. ⌜ r ≡ numberOf z c ⌝ }
 {
     let r = receipt_at(z, c.receipt);
-    let step = rules::outcome::step_at(view_of(z, c.account, r), c, r);
-    rules::outcome::step_number(step)
+    let step = numbers::outcome::step_at(view_of(z, c.account, r), c, r);
+    numbers::outcome::step_number(step)
 }
 
 // What a call of number 0 does.

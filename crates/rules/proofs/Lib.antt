@@ -1,3 +1,2 @@
 pub mod AtIndex
 pub mod KindsLaws
-pub mod NumbersLaws

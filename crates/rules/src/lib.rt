@@ -1,8 +1,6 @@
 // What each kind of call does, on values.
 pub mod kinds;
 pub mod money;
-pub mod numbers;
-pub mod outcome;
 
 use units::Fen;
 use units::YuanPerTonne;

@@ -1,0 +1,76 @@
+use mathlib.Core.Path.{_≡_}
+use mir.Syntax.{w32}
+use mir.Val.{toZ, ofZ}
+use mir.Facts.{toZ-ofZ}
+use Rattle.numbers.proofs.NumbersLaws.{all-in-range}
+use borrow.Author.Needs.{needs}
+use Rattle.numbers.proofs.in_range.Statement.{statement}
+use Rattle.numbers.proofs.in_range.Tie as tie
+
+is-price-requires : tie.Need-is-price-requires
+is-price-requires c κs = search needs
+
+uses-account-requires : tie.Need-uses-account-requires
+uses-account-requires c κs = search needs
+
+is-account-requires : tie.Need-is-account-requires
+is-account-requires c κs = search needs
+
+uses-receipt-requires : tie.Need-uses-receipt-requires
+uses-receipt-requires c κs = search needs
+
+is-receipt-requires : tie.Need-is-receipt-requires
+is-receipt-requires c κs = search needs
+
+uses-contract-requires : tie.Need-uses-contract-requires
+uses-contract-requires c κs = search needs
+
+is-contract-requires : tie.Need-is-contract-requires
+is-contract-requires c κs = search needs
+
+is-amount-requires : tie.Need-is-amount-requires
+is-amount-requires c κs = search needs
+
+is-basis-requires : tie.Need-is-basis-requires
+is-basis-requires c κs = search needs
+
+is-weight-requires : tie.Need-is-weight-requires
+is-weight-requires c κs = search needs
+
+-- the basis as the machine holds it
+kept : (c : tie.Start) → toZ w32 (ofZ w32 (c .args .c .basis)) ≡ c .args .c .basis
+kept c = toZ-ofZ (search needs)
+
+returns : tie.Need-returns
+returns c =
+    let start = c .before .before .before .before .before .before .before .before .before .before .before .before in
+    rw (
+      c .before .before .before .before .before .before .before .before .before .before .uses-account .ensures,
+      c .before .before .before .before .before .before .before .before .before .is-account .ensures,
+      c .before .before .before .before .before .before .before .before .uses-receipt .ensures,
+      c .before .before .before .before .before .before .before .is-receipt .ensures,
+      c .before .before .before .before .before .before .uses-contract .ensures,
+      c .before .before .before .before .before .is-contract .ensures,
+      c .before .before .before .is-amount .ensures,
+      c .before .before .before .before .before .before .before .before .before .before .before .is-price .ensures,
+      c .before .is-basis .ensures,
+      c .is-weight .ensures,
+      kept start,
+    )
+    (all-in-range (start .args .c) (start .args .c .kind))
+
+pub in-range-spec : {M : Type 1} → statement M
+in-range-spec =
+    tie.close
+    (tie.spec
+    is-price-requires
+    uses-account-requires
+    is-account-requires
+    uses-receipt-requires
+    is-receipt-requires
+    uses-contract-requires
+    is-contract-requires
+    is-amount-requires
+    is-basis-requires
+    is-weight-requires
+    returns)

@@ -1,0 +1,30 @@
+use borrow.Author.Tests.{eq-eqb, ne-eqb}
+use lib.Dec.{eqb, ltb}
+use Prim.Native.Nat.{_+_}
+use Rattle.zone.specs.Held.{heldBy}
+use Rattle.rules.specs.Numbers.{noMoney}
+use Rattle.numbers.proofs.NumbersLaws.{one-of-two}
+use borrow.Author.Needs.{needs}
+use Rattle.numbers.proofs.no_money.Statement.{statement}
+use Rattle.numbers.proofs.no_money.Tie as tie
+
+returns : tie.Need-returns
+unfolding noMoney
+returns c = rw (eq-eqb _ _ (c .before .if1 .taken))
+
+held-by-requires : tie.Need-held-by-requires
+held-by-requires c κs = search needs
+
+add-result : tie.Need-add-result
+add-result c = search needs
+
+returns-2 : tie.Need-returns-2
+unfolding noMoney
+returns-2 c =
+    let a = c .before .before .args in
+    let k = a .c .kind in
+    rw (ne-eqb k 2 (c .before .if1 .left), c .held-by .ensures .0)
+    (one-of-two (eqb k 6) (eqb k 7) (ltb (a .v .caller .0 + heldBy (a .c .account) (a .r)) 5000000))
+
+pub no-money-spec : {M : Type 1} → statement M
+no-money-spec = tie.close (tie.spec returns held-by-requires add-result returns-2)
