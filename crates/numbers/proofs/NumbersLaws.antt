@@ -1,7 +1,7 @@
 -- The tables of the numbers, at every kind.
 -- Assumes nothing.
 use mathlib.Core.Path.{_≡_, refl, sym, subst}
-use mathlib.Core.Bool.{Bool, true, false, false≢true, cond, not, _&&_, _||_}
+use mathlib.Core.Bool.{Bool, true, false, false≢true, cond, not, _&&_, _||_, and-true, and-false, and-assoc, or-false}
 use mathlib.Core.List.{List, [], _∷_}
 use Prim.Native.Nat.{ℕ, zero, suc, _≤_, _<_, _+_, _-_}
 use native.Mathlib.Omega.{arith}
@@ -11,31 +11,12 @@ use lib.IntN.{pos}
 use Rattle.units.specs.Ranges.{within, isPrice, isBasis, isWeight, isAmount}
 use Rattle.zone.specs.Valid.{isAccount, isZero}
 use Rattle.rules.specs.Numbers.{Field, brackets, isUsed, unusedZero, values, inRange, inStateNamed, isPartyNamed, illFormed, outOfRange, wrongPhase, wrongState, wrongParty, notAbove, noAsk, notPayable, noMoney, aboveLimit, aboveInvoice, number}
+use Rattle.rules.specs.Laws.Tables.{cond-or}
 use Rattle.rules.specs.Tables.{lowest}
 use Rattle.rules.specs.declared.View.{View}
 use Rattle.zone.specs.declared.Record.{Record}
 use Rattle.zone.specs.Laws.Tests.{price-at-most}
 use Rattle.rules.specs.declared.Call.{Call}
-
-and-assoc : (a b c : Bool) → a && b && c ≡ a && (b && c)
-and-assoc true b c = refl
-and-assoc false b c = refl
-
-and-true : (a : Bool) → a && true ≡ a
-and-true true = refl
-and-true false = refl
-
-and-false : (a : Bool) → a && false ≡ false
-and-false true = refl
-and-false false = refl
-
-cond-or : (a b : Bool) → cond a true b ≡ a || b
-cond-or true b = refl
-cond-or false b = refl
-
-or-false : (a : Bool) → a || false ≡ a
-or-false true = refl
-or-false false = refl
 
 is-zero : (n : ℕ) → eqb n 0 ≡ isZero (pos n)
 is-zero zero = refl
@@ -238,11 +219,10 @@ module _ (r : Record) where
       (simp and-true, simp and-true, simp and-true, simp and-true, simp and-true, simp and-true, refl, refl, simp and-true, simp and-true, simp and-true, simp and-true, simp and-true, simp and-true, simp and-true, simp and-true)
       (λ n h. simp no-kind)
 
--- one row of two kinds
-pub one-of-two : (a b x : Bool) → (a || b) && x ≡ cond (cond a true (cond b true false)) x false
-one-of-two true b x = refl
-one-of-two false true x = refl
-one-of-two false false x = refl
+-- a row that applies where its test passes
+pub and-cond : (a x : Bool) → a && x ≡ cond a x false
+and-cond true x = refl
+and-cond false x = refl
 
 -- ── Amounts ────────────────────────────────────────────────────────────────────────────────────
 

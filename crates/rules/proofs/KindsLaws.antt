@@ -1,8 +1,8 @@
 -- What the code of the kinds needs of a valid record; the rules' tables at a state and at a kind.
 -- Assumes nothing.
-use mathlib.Core.Bool.{Bool, true, false, cond, _&&_, _||_}
+use mathlib.Core.Bool.{Bool, true, false, cond, and-false}
 use mathlib.Core.List.{List, [], _∷_}
-use mathlib.Core.Path.{_≡_, refl}
+use mathlib.Core.Path.{_≡_}
 use Prim.Native.Nat.{ℕ, _+_, _-_, _*_, _/_, _≤_, _<_}
 use native.Mathlib.Omega.{arith}
 use lib.Dec.{eqb}
@@ -21,7 +21,6 @@ use Rattle.rules.specs.declared.Call.{Call}
 use Rattle.rules.specs.declared.Step.the-variants.{NoEvent}
 use Rattle.rules.specs.declared.View.{View}
 use Rattle.rules.specs.Effects.{noRule, ruleOf, closeLot, closeLodged, closeStruck, closePenalty}
-use Rattle.rules.specs.Tables.{among}
 
 -- bounds of a valid record, which is the record of a receipt
 pub record Small (f : Record) : Type 0 where
@@ -56,19 +55,6 @@ part-le full confirmed paid invoice h f = go (eqb (confirmed .0 + invoice .0) (f
         cond b (fen (restPayment full .0 - paid .0)) (fen (restPayment full .0 * invoice .0 / full .0)) .0 ≤ 1500000000
     go true = omega (arith, rest-le full)
     go false = omega (arith, rest-le full, bound-le-rest full (invoice .0) h)
-
--- one of two numbers, as the code tests it
-pub one-of-two : (n j k : ℕ) → among n (j ∷ k ∷ []) ≡ (eqb n j || eqb n k)
-one-of-two n j k = go (eqb n j) (eqb n k)
-  where
-    go : (a b : Bool) → cond a true (cond b true false) ≡ (a || b)
-    go true b = refl
-    go false true = refl
-    go false false = refl
-
-and-false : (a : Bool) → (a && false) ≡ false
-and-false true = refl
-and-false false = refl
 
 -- k is none of the numbers, as the last arm of a `match` knows it
 abbrev pub NoneOf : ℕ → List ℕ → Type 0

@@ -1,9 +1,13 @@
+use mathlib.Core.Bool.{Bool, false, cond, _||_}
+use mathlib.Core.List.{[], _∷_}
+use mathlib.Core.Path.{sym, ap, _∙_}
 use borrow.Author.Tests.{eq-eqb, ne-eqb}
 use lib.Dec.{eqb, ltb}
 use Prim.Native.Nat.{_+_}
 use Rattle.zone.specs.Held.{heldBy}
+use Rattle.rules.specs.Laws.Tables.{among-joined}
 use Rattle.rules.specs.Numbers.{noMoney}
-use Rattle.numbers.proofs.NumbersLaws.{one-of-two}
+use Rattle.numbers.proofs.NumbersLaws.{and-cond}
 use borrow.Author.Needs.{needs}
 use Rattle.numbers.proofs.no_money.Statement.{statement}
 use Rattle.numbers.proofs.no_money.Tie as tie
@@ -23,8 +27,9 @@ unfolding noMoney
 returns-2 c =
     let a = c .before .before .args in
     let k = a .c .kind in
+    let short = ltb (a .v .caller .0 + heldBy (a .c .account) (a .r)) 5000000 in
     rw (ne-eqb k 2 (c .before .if1 .left), c .held-by .ensures .0)
-    (one-of-two (eqb k 6) (eqb k 7) (ltb (a .v .caller .0 + heldBy (a .c .account) (a .r)) 5000000))
+    (and-cond (eqb k 6 || eqb k 7) short ∙ ap (λ (t : Bool). cond t short false) (sym (among-joined k 6 (7 ∷ []))))
 
 pub no-money-spec : {M : Type 1} → statement M
 no-money-spec = tie.close (tie.spec returns held-by-requires add-result returns-2)

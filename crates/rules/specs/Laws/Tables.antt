@@ -1,9 +1,9 @@
 -- Laws of the tables that count from 1: what stands in them after a change, and where an entry stands in an array.
 -- Assumes nothing.
-use mathlib.Core.Bool.{Bool, true, false, cond, false≢true}
+use mathlib.Core.Bool.{Bool, true, false, cond, _||_, false≢true, or-false}
 use mathlib.Core.List.{List, [], _∷_}
 use mathlib.Core.Logic.{_≢_}
-use mathlib.Core.Path.{_≡_, refl, sym, ap, subst}
+use mathlib.Core.Path.{_≡_, refl, sym, ap, _∙_, subst}
 use Prim.Native.Nat.{ℕ, zero, suc, _-_, _≤_, _<_}
 use native.Mathlib.Nat.{not-suc-le-zero}
 use native.Mathlib.Omega.{arith}
@@ -106,3 +106,26 @@ among-none n (k ∷ ks) h = go (eqb n k) refl (λ i. among-none n ks i) h
         → (eqb n k ≡ false) × Each (λ k. eqb n k ≡ false) ks
     go true e f h = absurd (false≢true (sym h))
     go false e f h = (e, f h)
+
+-- ── A table's test, and tests joined by `|` ────────────────────────────────────────────────────
+
+pub cond-or : (a b : Bool) → cond a true b ≡ a || b
+cond-or true b = refl
+cond-or false b = refl
+
+-- from the left, as code joins them
+abbrev pub joined : Bool → ℕ → List ℕ → Bool
+joined b n [] = b
+joined b n (k ∷ ks) = joined (b || eqb n k) n ks
+
+or-among : (b : Bool) (n : ℕ) (ks : List ℕ) → b || among n ks ≡ joined b n ks
+or-among b n [] = or-false b
+or-among b n (k ∷ ks) = go b ∙ or-among (b || eqb n k) n ks
+  where
+    go : (b : Bool) → b || cond (eqb n k) true (among n ks) ≡ b || eqb n k || among n ks
+    go true = refl
+    go false = cond-or (eqb n k) (among n ks)
+
+-- one of the numbers
+pub among-joined : (n k : ℕ) (ks : List ℕ) → among n (k ∷ ks) ≡ joined (eqb n k) n ks
+among-joined n k ks = cond-or (eqb n k) (among n ks) ∙ or-among (eqb n k) n ks
