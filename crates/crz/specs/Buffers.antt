@@ -30,14 +30,14 @@ callIn b =
       weight = leAt 4 b 20;
     }
 
--- no call, by its kind
+-- No kind is 0, so number 3 refuses it.
 abbrev pub noCall : Call
 noCall =
     record { kind = 0; account = 0; receipt = 0; contract = 0; days = 0; spare = 0; amount = 0; basis = pos 0; weight = 0 }
 
--- what the code makes of a record of any length
-unfoldable pub callOr : List ℕ → Call
-callOr b = cond (eqb (length b) callLength) (callIn b) noCall
+-- What the code makes of a record of any length. No promise of a public function cites it.
+unfoldable pub callOrNone : List ℕ → Call
+callOrNone b = cond (eqb (length b) callLength) (callIn b) noCall
 
 -- "zeros to byte 1,040"
 abbrev pub answerLength : ℕ

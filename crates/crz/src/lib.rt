@@ -10,7 +10,7 @@ ghost use Rattle.rules.specs.Outcome.{numberOf};
 ghost use Rattle.rules.specs.Sized.{Sized};
 ghost use Rattle.image.specs.Image.{encode};
 ghost use Rattle.image.specs.Table.{tableBytes};
-ghost use Rattle.crz.specs.Buffers.{callIn, callOr, entryBytes, headerOf, refusedAnswer, acceptedAnswer};
+ghost use Rattle.crz.specs.Buffers.{callIn, callOrNone, entryBytes, headerOf, refusedAnswer, acceptedAnswer};
 ghost use Rattle.crz.specs.Fresh.{freshEntry};
 ghost use Rattle.crz.specs.Returned.{Returned, ReturnedWith};
 use calls::Swept;
@@ -49,7 +49,7 @@ fn call_in(s: &[u8]) -> Call
 
 // A record of another length than 24 is no call: its kind is 0, which number 3 refuses.
 fn read_call(s: &[u8]) -> Call
-    ensures { λ r. ⌜ r ≡ callOr (now (s .entry)) ⌝ }
+    ensures { λ r. ⌜ r ≡ callOrNone (now (s .entry)) ⌝ }
 {
     if s.len() != 24 {
         return Call {

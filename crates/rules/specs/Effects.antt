@@ -39,15 +39,12 @@ entryOf lot outcome seller buyer number =
 abbrev pub becomes : Receipt → Lot → Receipt
 becomes r lot = record { owner = r .owner; weight = r .weight; lot = lot }
 
--- Lot n goes on as `lot`, with an outcome and its number; the parties are the record's.
-abbrev pub goesOn : ℕ → Receipt → Lot → ℕ → ℕ → Step
-goesOn n r lot outcome number =
-    let f = recordOf r in
-    Event (entryOf n outcome (f .seller) (f .buyer) number) (becomes r lot)
+-- Lot n, of record f, goes on as `lot`, with an outcome and its number; the parties are the record's.
+abbrev pub goesOnFrom : Record → ℕ → Receipt → Lot → ℕ → ℕ → Step
+goesOnFrom f n r lot outcome number = Event (entryOf n outcome (f .seller) (f .buyer) number) (becomes r lot)
 
--- the lot of record f ends
-abbrev pub endsIdle : ℕ → Receipt → Record → ℕ → ℕ → Step
-endsIdle n r f outcome number = Event (entryOf n outcome (f .seller) (f .buyer) number) (becomes r Idle)
+abbrev pub goesOn : ℕ → Receipt → Lot → ℕ → ℕ → Step
+goesOn n r = goesOnFrom (recordOf r) n r
 
 -- ── Bids ───────────────────────────────────────────────────────────────────────────────────────
 
@@ -122,17 +119,16 @@ hasMoney v f = leb (full f .0) (v .buyer .0 + deposit .0)
 abbrev pub closeLodged : View → ℕ → Receipt → Record → Step
 closeLodged v n r f =
     let bought : Receipt = record { owner = f .buyer; weight = r .weight; lot = Settled (tradeOf f) } in
-    cond (hasMoney v f) (Event (entryOf n 8 (f .seller) (f .buyer) (full f .0)) bought) (endsIdle n r f 12 (deposit .0))
+    cond (hasMoney v f) (Event (entryOf n 8 (f .seller) (f .buyer) (full f .0)) bought) (goesOnFrom f n r Idle 12 (deposit .0))
 
 -- "State 3 with money: deposit freed, state 7, due day + 1 (13). State 3 without: deposit freed, idle (14)." (article 20)
 abbrev pub closeStruck : View → ℕ → Receipt → Record → Step
 closeStruck v n r f =
-    let owing : Receipt = becomes r (PenaltyDue (f .seller) (f .buyer) (v .day + 1)) in
-    cond (hasMoney v f) (Event (entryOf n 13 (f .seller) (f .buyer) 0) owing) (endsIdle n r f 14 0)
+    cond (hasMoney v f) (goesOnFrom f n r (PenaltyDue (f .seller) (f .buyer) (v .day + 1)) 13 0) (goesOnFrom f n r Idle 14 0)
 
 -- "State 7: the smaller of seller's free and the penalty passes to the buyer, idle (15)." (article 21)
 abbrev pub closePenalty : View → ℕ → Receipt → Record → Step
-closePenalty v n r f = endsIdle n r f 15 (penaltyPassed (v .seller) .0)
+closePenalty v n r f = goesOnFrom f n r Idle 15 (penaltyPassed (v .seller) .0)
 
 -- "11. Morning close: .. each lot of state 3, 4 or 7 with due ≤ day."
 unfoldable pub closeLot : View → Call → ℕ → Receipt → Step

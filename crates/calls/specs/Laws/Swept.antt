@@ -30,7 +30,7 @@ recorded s NoEvent = s
 recorded s (Event e r) = record { zone = happen (s .zone) e r; count = s .count + 1; entries = set (s .entries) (s .count) e }
 
 -- what the lots so far did, and one step more
-abbrev pub further : Done → Step → Done
+abbrev further : Done → Step → Done
 further d s = record { zone = after (d .zone) s .zone; entries = d .entries ++ after (d .zone) s .entries }
 
 -- what a step did, then the others
@@ -41,7 +41,7 @@ abbrev listing : Zone → List Entry → Done
 listing z l = record { zone = z; entries = l }
 
 module _ (rule : Zone → ℕ → Step) where
-  pub sweep-more : (more n k : ℕ) (z : Zone) → k ≡ n + more
+  sweep-more : (more n k : ℕ) (z : Zone) → k ≡ n + more
       → sweep rule (suc more) n z ≡ further (sweep rule more n z) (rule (sweep rule more n z .zone) k)
   unfolding sweep
   sweep-more zero n k z q =
@@ -85,7 +85,7 @@ next-entry l e h =
     ∙ set-append-seam l noEntry (replicate k noEntry) e
     ∙ sym (append-assoc l (e ∷ []) (replicate k noEntry))
 
-pub recorded-more : (d : Done) (s : Step) → length (d .entries) < 128 → recorded (sweptOf d) s ≡ sweptOf (further d s)
+recorded-more : (d : Done) (s : Step) → length (d .entries) < 128 → recorded (sweptOf d) s ≡ sweptOf (further d s)
 unfolding sweptOf
 recorded-more d (Refused k) h = rw (append-nil (d .entries))
 recorded-more d NoEvent h = rw (append-nil (d .entries))

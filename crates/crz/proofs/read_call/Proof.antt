@@ -1,19 +1,19 @@
 -- A record of 24 bytes is read, any other is no call.
 use borrow.Author.Tests.{eq-eqb, ne-eqb}
-use Rattle.crz.specs.Buffers.{callOr}
+use Rattle.crz.specs.Buffers.{callOrNone}
 use borrow.Author.Needs.{needs}
 use Rattle.crz.proofs.read_call.Statement.{statement}
 use Rattle.crz.proofs.read_call.Tie as tie
 
 returns : tie.Need-returns
-unfolding callOr
+unfolding callOrNone
 returns c = rw (ne-eqb _ _ (c .if1 .taken))
 
 call-in-requires : tie.Need-call-in-requires
 call-in-requires c κs = search needs
 
 returns-2 : tie.Need-returns-2
-unfolding callOr
+unfolding callOrNone
 returns-2 c = rw (c .call-in .ensures, eq-eqb _ _ (c .before .if1 .left))
 
 pub read-call-spec : {M : Type 1} → statement M

@@ -19,7 +19,7 @@ use Rattle.rules.specs.Outcome.{numberOf}
 use Rattle.rules.specs.Sized.{Sized}
 use Rattle.image.specs.Image.{validImage, decode, encode}
 use Rattle.image.specs.Laws.RoundTrip.{decode-accounts, decode-receipts, decode-asks, valid-decode}
-use Rattle.crz.specs.Buffers.{callIn, noCall, callOr, refusedAnswer, acceptedAnswer}
+use Rattle.crz.specs.Buffers.{callIn, noCall, callOrNone, refusedAnswer, acceptedAnswer}
 use Rattle.crz.specs.Returned.{numberOr, numberWith, numberFor, refusal, Left, turnedDown, carriedOut, ReturnedWith, Returned}
 
 -- ── The number ─────────────────────────────────────────────────────────────────────────────────
@@ -121,8 +121,8 @@ left-same b c (turnedDown n) h = turnedDown n
 left-same b c (carriedOut es l) h = absurd (h refl)
 
 module _ (image call answer : List ℕ) (r : ℕ) (image′ answer′ : List ℕ) where
-  pub returned-record : ReturnedWith image (callOr call) answer r image′ answer′ → Returned image call answer r image′ answer′
-  unfolding numberFor callOr
+  pub returned-record : ReturnedWith image (callOrNone call) answer r image′ answer′ → Returned image call answer r image′ answer′
+  unfolding numberFor callOrNone
   returned-record = go (eqb (length call) 24) refl
     where
       go : (b : Bool) → eqb (length call) 24 ≡ b → ReturnedWith image (cond b (callIn call) noCall) answer r image′ answer′
