@@ -4,8 +4,8 @@
  * A zone is an image of CRZ_IMAGE_LENGTH bytes that the host keeps. Each entry takes byte buffers that the host lends for the time of the
  * call: a pointer and a length. No two buffers of one call may share a byte. A buffer of length 0 may come with any pointer, NULL too.
  * The library keeps no state of its own and allocates nothing: calls on different images may run at the same time on different threads,
- * calls on one image one at a time. On x86-64 crz_call takes less than 96 KB of the caller's stack and crz_fresh less than 28 KB, whatever
- * the kind and the image: a thread that makes calls has room with a stack of 128 KB.
+ * calls on one image one at a time, and nobody reads an image while a call is made on it. On x86-64 each entry takes less than 16 KB of
+ * the caller's stack, whatever the kind and the image.
  *
  * Numbers in the image, the call and the answer are little-endian; i32 is two's complement.
  */

@@ -3,4 +3,6 @@
 pub mod Past
 pub mod Over
 pub mod Visits
+pub mod Held
+pub mod Changed
 pub mod Swept

@@ -1,3 +1,4 @@
 pub mod Laws
 pub mod Listed
+pub mod Changed
 pub mod Concerned

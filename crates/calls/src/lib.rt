@@ -1,41 +1,48 @@
-// A whole call on values: its number, or the zone after it and the entries listed.
+// A whole call, in the image: its number, or what it does there and the entries listed. The rules read and give values; the image is
+// changed part by part, through crate `image`.
 ghost use mathlib.Core.Path.{_≡_};
 ghost use mathlib.Core.Bool.{true};
 ghost use Prim.Native.Nat.{_≤_, _<_};
-ghost use lib.ListN.{set};
-ghost use Rattle.zone.specs.Valid.{validZone};
+ghost use lib.ListN.{length};
+ghost use Rattle.zone.specs.Held.{holdOf};
+ghost use Rattle.zone.specs.Parts.{withAsks, withReceipts};
+ghost use Rattle.zone.specs.Record.{recordOf};
+ghost use Rattle.image.specs.Image.{validImage, decode, encode};
+ghost use Rattle.image.specs.Laws.RoundTrip.{Fits};
 ghost use Rattle.rules.specs.Effects.{opening, ending, firstLot, lotCount, ruleAt, effect};
 ghost use Rattle.rules.specs.Events.{happen, passed, sweep};
 ghost use Rattle.rules.specs.Laws.Chain.{Path};
 ghost use Rattle.rules.specs.Laws.Good.{Good};
 ghost use Rattle.rules.specs.Outcome.{numberOf};
-ghost use Rattle.rules.specs.Sized.{Sized};
+ghost use Rattle.rules.specs.Tables.{put};
 ghost use Rattle.rules.specs.View.{viewOf, receiptAt, askAt, freeAt};
 ghost use Rattle.calls.specs.Laws.Visits.{Visits, Happens};
 ghost use Rattle.calls.specs.Concerned.{concerned};
-ghost use Rattle.calls.specs.Listed.{sweptOf};
+ghost use Rattle.calls.specs.Listed.{entriesOf};
+
+pub mod money;
+
 use rules::Call;
 use rules::Entry;
 use rules::Step;
 use rules::View;
 use units::Fen;
 use units::YuanPerTonne;
-use zone::Account;
+use zone::Hold;
 use zone::Receipt;
-use zone::Zone;
 
-// The zone so far, and the entries listed so far; unused places are zero.
-pub struct Swept {
-    pub zone: Zone,
+// The entries listed; unused places are zero.
+pub struct Entries {
     pub count: usize,
-    pub entries: [Entry; 128],
+    pub all: [Entry; 128],
 }
 
 // ── What a rule reads ───────────────────────────────────────────────────────────────────────────
 
 // Free money of any account number; who is no account has none.
-fn free_of(l: [Account; 96], a: u8) -> Fen
-    ensures { λ r. ⌜ r ≡ freeAt l a ⌝ }
+fn free_of(image: &[u8], a: u8) -> Fen
+    requires { ⌜ length (now image) ≡ 5696 ⌝ }
+    ensures { λ r. ⌜ r ≡ freeAt (decode (now (image .entry)) .accounts) a ⌝ }
 {
     if a == 0 {
         return Fen(0);
@@ -44,26 +51,27 @@ fn free_of(l: [Account; 96], a: u8) -> Fen
         return Fen(0);
     }
     let k = (a - 1) as usize;
-    let v = l[k];
+    let v = image::account_at(image, k);
     v.free
 }
 
-fn ask_of(l: [YuanPerTonne; 8], contract: u8) -> YuanPerTonne
-    ensures { λ r. ⌜ r ≡ askAt l contract ⌝ }
+fn ask_of(image: &[u8], n: u8) -> YuanPerTonne
+    requires { ⌜ length (now image) ≡ 5696 ⌝ }
+    ensures { λ r. ⌜ r ≡ askAt (decode (now (image .entry)) .asks) n ⌝ }
 {
-    if contract == 0 {
+    if n == 0 {
         return YuanPerTonne(0);
     }
-    if 8 < contract {
+    if 8 < n {
         return YuanPerTonne(0);
     }
-    let k = (contract - 1) as usize;
-    l[k]
+    let k = (n - 1) as usize;
+    image::ask_at(image, k)
 }
 
-fn receipt_at(z: Zone, n: u8) -> Receipt
-    requires { ⌜ Sized z ⌝ }
-    ensures { λ r. ⌜ r ≡ receiptAt (z .receipts) n ⌝ }
+fn receipt_of(image: &[u8], n: u8) -> Receipt
+    requires { ⌜ length (now image) ≡ 5696 ⌝ }
+    ensures { λ r. ⌜ r ≡ receiptAt (decode (now (image .entry)) .receipts) n ⌝ }
 {
     if n == 0 {
         return zone::no_receipt();
@@ -72,23 +80,24 @@ fn receipt_at(z: Zone, n: u8) -> Receipt
         return zone::no_receipt();
     }
     let k = (n - 1) as usize;
-    z.receipts[k]
+    zone::receipt_of(image::record_at(image, k))
 }
 
-fn view_of(z: Zone, a: u8, r: Receipt) -> View
-    ensures { λ v. ⌜ v ≡ viewOf z a r ⌝ }
+fn view_of(image: &[u8], a: u8, r: Receipt) -> View
+    requires { ⌜ length (now image) ≡ 5696 ⌝ }
+    ensures { λ v. ⌜ v ≡ viewOf (decode (now (image .entry))) a r ⌝ }
 {
     let f = zone::record_of(r);
-    let asks = z.asks;
-    let accounts = z.accounts;
-    let total = z.total;
-    let ask = ask_of(asks, f.contract);
-    let caller = free_of(accounts, a);
-    let buyer = free_of(accounts, f.buyer);
-    let seller = free_of(accounts, f.seller);
+    let day = image::day_in(image);
+    let afternoon = image::afternoon_in(image);
+    let ask = ask_of(image, f.contract);
+    let caller = free_of(image, a);
+    let buyer = free_of(image, f.buyer);
+    let seller = free_of(image, f.seller);
+    let total = image::total_in(image);
     View {
-        day: z.day,
-        afternoon: z.afternoon,
+        day: day,
+        afternoon: afternoon,
         ask: ask,
         caller: caller,
         buyer: buyer,
@@ -111,55 +120,64 @@ fn passed_by(e: Entry) -> u64
     }
 }
 
-// The zone with other accounts and another receipt in place k.
-fn with_receipt(mut z: Zone, accounts: [Account; 96], k: usize, r: Receipt) -> Zone
-    requires { ⌜ k < 128 ⌝ }
-    ensures { λ x. ⌜ x ≡ record { day = z .day; afternoon = z .afternoon; asks = z .asks; accounts = accounts; receipts = set (z .receipts) k r; total = z .total } ⌝ }
+// What the lot of a number holds.
+fn hold_at(image: &[u8], n: u8) -> Hold
+    requires { ⌜ (now image ≡ encode (decode (now image))) × Fits (decode (now image)) × (1 ≤ n) × (n ≤ 128) ⌝ }
+    ensures { λ r. ⌜ r ≡ holdOf (recordOf (receiptAt (decode (now (image .entry)) .receipts) n)) ⌝ }
 {
-    z.accounts = accounts;
-    z.receipts[k] = r;
-    z
+    let k = (n - 1) as usize;
+    zone::hold_of(image::record_at(image, k))
 }
 
-fn happen_at(z: Zone, e: Entry, old: Receipt, new: Receipt) -> Zone
-    requires { ⌜ Happens z e old new ⌝ }
-    ensures { λ r. ⌜ r ≡ happen z e new ⌝ }
+// The receipt of a lot; lot 0 is none, and nothing is put.
+fn put_receipt(image: &mut [u8], lot: u8, r: Receipt)
+    requires { ⌜ (now image ≡ encode (decode (now image))) × (lot ≤ 128) ⌝ }
+    ensures { λ _. ⌜ now (image .exit) ≡ encode (withReceipts (decode (now (image .entry))) (put (decode (now (image .entry)) .receipts) lot r)) ⌝ }
 {
-    let held = zone::hold_of(zone::record_of(old));
-    let holds = zone::hold_of(zone::record_of(new));
-    let accounts = z.accounts;
-    let moved = rules::money::move_money(accounts, held, e.from, e.to, passed_by(e), holds);
-    let k = (e.lot - 1) as usize;
-    with_receipt(z, moved, k, new)
+    if lot == 0 {
+        return;
+    }
+    let k = (lot - 1) as usize;
+    image::set_receipt(image, k, r);
+}
+
+// The lot's receipt is changed, and its money follows.
+fn happen_at(image: &mut [u8], e: Entry, new: Receipt)
+    requires { ⌜ (now image ≡ encode (decode (now image))) × Happens (decode (now image)) e new ⌝ }
+    ensures { λ _. ⌜ now (image .exit) ≡ encode (happen (decode (now (image .entry))) e new) ⌝ }
+{
+    let held = hold_at(image, e.lot);
+    put_receipt(image, e.lot, new);
+    let holds = hold_at(image, e.lot);
+    money::move_money(image, held, e.from, e.to, passed_by(e), holds);
 }
 
 // ── The lots in ascending order ─────────────────────────────────────────────────────────────────
 
-// Whether the call's rule can do anything at the receipt; the test is cheaper than the rule.
-fn concerns(c: Call, r: Receipt) -> bool
-    ensures { λ x. ⌜ x ≡ concerned c r ⌝ }
+// Whether the call's rule can do anything at a lot; the test is cheaper than the rule.
+fn concerns(c: Call, state: u8, contract: u8) -> bool
+    ensures { λ x. ⌜ x ≡ concerned c state contract ⌝ }
 {
     let kind = c.kind;
-    let f = zone::record_of(r);
     match kind {
-        9 => (f.state == 2) & (f.contract == c.contract),
-        11 => (f.state == 3) | (f.state == 4) | (f.state == 7),
-        15 => (f.state == 1) | (f.state == 2),
+        9 => (state == 2) & (contract == c.contract),
+        11 => (state == 3) | (state == 4) | (state == 7),
+        15 => (state == 1) | (state == 2),
         _ => true,
     }
 }
 
 // The rule of the call at lot n, which is receipt r.
-fn visit(z: Zone, c: Call, n: u8, r: Receipt) -> Step
-    requires { ⌜ Visits z c n r ⌝ }
-    ensures { λ x. ⌜ x ≡ ruleAt c z n ⌝ }
+fn visit(image: &[u8], c: Call, n: u8, r: Receipt) -> Step
+    requires { ⌜ (length (now image) ≡ 5696) × Visits (decode (now image)) c n r ⌝ }
+    ensures { λ x. ⌜ x ≡ ruleAt c (decode (now (image .entry))) n ⌝ }
 {
-    rules::kinds::rule_of(view_of(z, c.account, r), c, n, r)
+    rules::kinds::rule_of(view_of(image, c.account, r), c, n, r)
 }
 
-fn sweep_lots(z: Zone, c: Call, first: u8, more: usize) -> Swept
-    requires { ⌜ Good z × Path c z 1 first more ⌝ }
-    ensures { λ r. ⌜ r ≡ sweptOf (sweep (ruleAt c) more first z) ⌝ }
+fn sweep_lots(image: &mut [u8], c: Call, first: u8, more: usize) -> Entries
+    requires { ⌜ (now image ≡ encode (decode (now image))) × Good (decode (now image)) × Path c (decode (now image)) 1 first more ⌝ }
+    ensures { λ r. ⌜ (now (image .exit) ≡ encode (sweep (ruleAt c) more first (decode (now (image .entry))) .zone)) × (r ≡ entriesOf (sweep (ruleAt c) more first (decode (now (image .entry))) .entries)) ⌝ }
 {
     let none = Entry {
         lot: 0,
@@ -168,19 +186,18 @@ fn sweep_lots(z: Zone, c: Call, first: u8, more: usize) -> Swept
         to: 0,
         number: 0,
     };
-    let mut zone = z;
     let mut count: usize = 0;
     let mut entries = [none; 128];
     let mut i: usize = 0;
     while i < more {
         let n = first + (i as u8);
         let k = (n - 1) as usize;
-        let r = zone.receipts[k];
-        if concerns(c, r) {
-            let step = visit(zone, c, n, r);
+        if concerns(c, image::state_at(image, k), image::contract_at(image, k)) {
+            let r = zone::receipt_of(image::record_at(image, k));
+            let step = visit(image, c, n, r);
             match step {
                 Step::Event(e, new) => {
-                    zone = happen_at(zone, e, r, new);
+                    happen_at(image, e, new);
                     entries[count] = e;
                     count += 1;
                 }
@@ -190,65 +207,64 @@ fn sweep_lots(z: Zone, c: Call, first: u8, more: usize) -> Swept
         }
         i += 1;
     }
-    Swept {
-        zone: zone,
+    Entries {
         count: count,
-        entries: entries,
+        all: entries,
     }
 }
 
 // ── Opening and ending ──────────────────────────────────────────────────────────────────────────
 
-fn open_call(z: Zone, c: Call) -> Zone
-    requires { ⌜ Good z × (numberOf z c ≡ 0) ⌝ }
-    ensures { λ r. ⌜ r ≡ opening c z ⌝ }
+// The ask of a contract; contract 0 is none, and nothing is put.
+fn put_ask(image: &mut [u8], contract: u8, ask: YuanPerTonne)
+    requires { ⌜ (now image ≡ encode (decode (now image))) × (contract ≤ 8) ⌝ }
+    ensures { λ _. ⌜ now (image .exit) ≡ encode (withAsks (decode (now (image .entry))) (put (decode (now (image .entry)) .asks) contract ask)) ⌝ }
 {
-    let kind = c.kind;
-    let mut after = z;
-    match kind {
-        1 => {
-            let accounts = z.accounts;
-            let given = rules::money::give_to(accounts, c.account, c.amount);
-            after.accounts = given;
-            let total = Fen(z.total.0 + c.amount);
-            after.total = total;
-        }
-        2 => {
-            let accounts = z.accounts;
-            let taken = rules::money::take_from(accounts, c.account, c.amount);
-            after.accounts = taken;
-            let total = Fen(z.total.0 - c.amount);
-            after.total = total;
-        }
-        9 => {
-            let k = (c.contract - 1) as usize;
-            let ask = YuanPerTonne(c.amount as u32);
-            after.asks[k] = ask;
-        }
-        _ => {}
+    if contract == 0 {
+        return;
     }
-    after
+    let k = (contract - 1) as usize;
+    image::set_ask(image, k, ask);
 }
 
-fn end_call(z: Zone, c: Call) -> Zone
-    requires { ⌜ z .day ≤ 30000 ⌝ }
-    ensures { λ r. ⌜ r ≡ ending c z ⌝ }
+fn open_call(image: &mut [u8], c: Call)
+    requires { ⌜ (now image ≡ encode (decode (now image))) × Good (decode (now image)) × (numberOf (decode (now image)) c ≡ 0) ⌝ }
+    ensures { λ _. ⌜ now (image .exit) ≡ encode (opening c (decode (now (image .entry)))) ⌝ }
 {
     let kind = c.kind;
-    let mut after = z;
+    let total = image::total_in(image);
     match kind {
-        11 => {
-            after.afternoon = true;
+        1 => {
+            money::give_to(image, c.account, c.amount);
+            image::set_total(image, Fen(total.0 + c.amount));
         }
-        15 => {
-            let none = [YuanPerTonne(0); 8];
-            after.asks = none;
-            after.day = z.day + 1;
-            after.afternoon = false;
+        2 => {
+            money::take_from(image, c.account, c.amount);
+            image::set_total(image, Fen(total.0 - c.amount));
+        }
+        9 => {
+            put_ask(image, c.contract, YuanPerTonne(c.amount as u32));
         }
         _ => {}
     }
-    after
+}
+
+fn end_call(image: &mut [u8], c: Call)
+    requires { ⌜ (now image ≡ encode (decode (now image))) × Good (decode (now image)) ⌝ }
+    ensures { λ _. ⌜ now (image .exit) ≡ encode (ending c (decode (now (image .entry)))) ⌝ }
+{
+    let kind = c.kind;
+    let day = image::day_in(image);
+    match kind {
+        11 => {
+            image::set_clock(image, day, true);
+        }
+        15 => {
+            image::clear_asks(image);
+            image::set_clock(image, day + 1, false);
+        }
+        _ => {}
+    }
 }
 
 fn first_lot(c: Call) -> u8
@@ -275,28 +291,22 @@ fn lot_count(c: Call) -> usize
 
 // ── The whole call ──────────────────────────────────────────────────────────────────────────────
 
-pub fn number_of(z: Zone, c: Call) -> u8
-    requires { ⌜ Sized z × (validZone z ≡ true) ⌝ }
-    ensures { λ r. ⌜ r ≡ numberOf z c ⌝ }
+pub fn number_of(image: &[u8], c: Call) -> u8
+    requires { ⌜ validImage (now image) ≡ true ⌝ }
+    ensures { λ r. ⌜ r ≡ numberOf (decode (now (image .entry))) c ⌝ }
 {
-    let r = receipt_at(z, c.receipt);
-    let step = numbers::outcome::step_at(view_of(z, c.account, r), c, r);
+    let r = receipt_of(image, c.receipt);
+    let step = numbers::outcome::step_at(view_of(image, c.account, r), c, r);
     numbers::outcome::step_number(step)
 }
 
 // What a call of number 0 does.
-pub fn perform(z: Zone, c: Call) -> Swept
-    requires { ⌜ Sized z × (validZone z ≡ true) × (numberOf z c ≡ 0) ⌝ }
-    ensures { λ r. ⌜ r ≡ sweptOf (effect z c) ⌝ }
+pub fn perform(image: &mut [u8], c: Call) -> Entries
+    requires { ⌜ (validImage (now image) ≡ true) × (numberOf (decode (now image)) c ≡ 0) ⌝ }
+    ensures { λ r. ⌜ (now (image .exit) ≡ encode (effect (decode (now (image .entry))) c .zone)) × (r ≡ entriesOf (effect (decode (now (image .entry))) c .entries)) ⌝ }
 {
-    let opened = open_call(z, c);
-    let s = sweep_lots(opened, c, first_lot(c), lot_count(c));
-    let last = s.zone;
-    let entries = s.entries;
-    let ended = end_call(last, c);
-    Swept {
-        zone: ended,
-        count: s.count,
-        entries: entries,
-    }
+    open_call(image, c);
+    let entries = sweep_lots(image, c, first_lot(c), lot_count(c));
+    end_call(image, c);
+    entries
 }

@@ -4,19 +4,16 @@ ghost use mathlib.Core.Bool.{true};
 ghost use Prim.Native.Nat.{_+_, _≤_, _<_};
 ghost use lib.ListN.{length, take};
 ghost use lib.Seq.{sets};
-ghost use Rattle.zone.specs.Valid.{validZone};
 ghost use Rattle.rules.specs.Effects.{effect};
 ghost use Rattle.rules.specs.Outcome.{numberOf};
-ghost use Rattle.rules.specs.Sized.{Sized};
-ghost use Rattle.image.specs.Image.{encode};
+ghost use Rattle.image.specs.Image.{validImage, decode, encode};
 ghost use Rattle.image.specs.Table.{tableBytes};
 ghost use Rattle.crz.specs.Buffers.{callIn, callOrNone, entryBytes, headerOf, refusedAnswer, acceptedAnswer};
 ghost use Rattle.crz.specs.Fresh.{freshEntry};
 ghost use Rattle.crz.specs.Returned.{Returned, ReturnedWith};
-use calls::Swept;
+use calls::Entries;
 use rules::Call;
 use rules::Entry;
-use zone::Zone;
 
 // ── Call record and answer ──────────────────────────────────────────────────────────────────────
 
@@ -136,15 +133,15 @@ fn answer_header(afternoon: bool, count: usize, total: u64) -> [u8; 16]
     ]
 }
 
-// The answer of an accepted call.
-fn fill_answer(answer: &mut [u8], s: Swept)
-    requires { ⌜ (1040 ≤ length (now answer)) × (s .count ≤ 128) ⌝ }
-    ensures { λ _. ⌜ now (answer .exit) ≡ acceptedAnswer (s .zone) (take (s .count) (s .entries)) (now (answer .entry)) ⌝ }
+// The answer of an accepted call, with the phase and the total of the image after it.
+fn fill_answer(answer: &mut [u8], image: &[u8], es: Entries)
+    requires { ⌜ (1040 ≤ length (now answer)) × (length (now image) ≡ 5696) × (es .count ≤ 128) ⌝ }
+    ensures { λ _. ⌜ now (answer .exit) ≡ acceptedAnswer (decode (now (image .entry))) (take (es .count) (es .all)) (now (answer .entry)) ⌝ }
 {
-    let z = s.zone;
-    let count = s.count;
-    let entries = s.entries;
-    let h = answer_header(z.afternoon, count, z.total.0);
+    let count = es.count;
+    let entries = es.all;
+    let total = image::total_in(image);
+    let h = answer_header(image::afternoon_in(image), count, total.0);
     wire::put_zeros(answer, 0, 1040);
     wire::put_run(answer, 0, &h);
     put_entries(answer, entries, count);
@@ -152,15 +149,13 @@ fn fill_answer(answer: &mut [u8], s: Swept)
 
 // ── A call ──────────────────────────────────────────────────────────────────────────────────────
 
-// An accepted call: the image of the zone after it, and the answer.
-fn carry_out(image: &mut [u8], answer: &mut [u8], z: Zone, c: Call) -> u32
-    requires { ⌜ (length (now image) ≡ 5696) × (1040 ≤ length (now answer)) × Sized z × (validZone z ≡ true) × (numberOf z c ≡ 0) ⌝ }
-    ensures { λ r. ⌜ (r ≡ 0) × (now (image .exit) ≡ encode (effect z c .zone)) × (now (answer .exit) ≡ acceptedAnswer (effect z c .zone) (effect z c .entries) (now (answer .entry))) ⌝ }
+// An accepted call: what it does in the image, and the answer.
+fn carry_out(image: &mut [u8], answer: &mut [u8], c: Call) -> u32
+    requires { ⌜ (1040 ≤ length (now answer)) × (validImage (now image) ≡ true) × (numberOf (decode (now image)) c ≡ 0) ⌝ }
+    ensures { λ r. ⌜ (r ≡ 0) × (now (image .exit) ≡ encode (effect (decode (now (image .entry))) c .zone)) × (now (answer .exit) ≡ acceptedAnswer (effect (decode (now (image .entry))) c .zone) (effect (decode (now (image .entry))) c .entries) (now (answer .entry))) ⌝ }
 {
-    let s = calls::perform(z, c);
-    fill_answer(answer, s);
-    let after = s.zone;
-    image::write_image(image, after);
+    let es = calls::perform(image, c);
+    fill_answer(answer, image, es);
     0
 }
 
@@ -171,16 +166,14 @@ pub fn make_call(image: &mut [u8], c: Call, answer: &mut [u8]) -> u32
     if answer.len() < 1040 {
         return 1;
     }
-    let reading = image::read_image(image);
-    if !reading.ok {
+    if !image::image_ok(image) {
         return refuse(answer, 2);
     }
-    let z = reading.zone;
-    let n = calls::number_of(z, c);
+    let n = calls::number_of(image, c);
     if n != 0 {
         return refuse(answer, n);
     }
-    carry_out(image, answer, z, c)
+    carry_out(image, answer, c)
 }
 
 // Makes a call on an image. Returns 0 and writes image and answer, or a refusal's number: 1 writes nothing, any other fills the answer.

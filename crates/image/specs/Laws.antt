@@ -7,3 +7,4 @@ pub mod Turns
 pub mod Verdict
 pub mod Books
 pub mod RoundTrip
+pub mod Places

@@ -1,13 +1,15 @@
-// 5,696 bytes to a zone with a verdict, and a zone to 5,696 bytes.
+// 5,696 bytes as a zone: the verdict on any bytes, each part read and put where it stands, and a zone to bytes. All offsets are here.
 ghost use mathlib.Core.Path.{_≡_};
 ghost use mathlib.Core.Bool.{true, cond};
 ghost use Prim.Native.Nat.{_+_, _*_, _≤_, _<_, _^_, min};
-ghost use lib.ListN.{length, take, drop};
+ghost use lib.ListN.{length, take, drop, set, replicate};
 ghost use lib.Seq.{sets};
+ghost use Rattle.units.specs.Payments.{fen};
 ghost use Rattle.zone.specs.Held.{holdOf};
 ghost use Rattle.zone.specs.Valid.{recordValid, askOk, all};
-ghost use Rattle.image.specs.Table.{tableBytes};
-ghost use Rattle.image.specs.Layout.{headerOk, recordIn, recordBytes, receiptBytes, accountIn, accountBytes, askBytes, asksIn, accountsIn, recordsIn, receiptsIn, headerBytes};
+ghost use Rattle.zone.specs.Parts.{withClock, withAsks, withAccounts, withReceipts, withTotal};
+ghost use Rattle.image.specs.Table.{tableBytes, recordAt};
+ghost use Rattle.image.specs.Layout.{headerOk, dayIn, afternoonIn, totalIn, recordIn, recordBytes, receiptBytes, accountIn, accountBytes, askIn, askBytes, asksIn, accountsIn, recordsIn, headerBytes};
 ghost use Rattle.image.specs.Image.{validImage, decode, encode};
 ghost use Rattle.image.specs.Sums.{noHold, heldSums, moneyUpTo, frozenMatches};
 use units::Basis;
@@ -20,23 +22,53 @@ use zone::Receipt;
 use zone::Record;
 use zone::Zone;
 
-// ── Reading ─────────────────────────────────────────────────────────────────────────────────────
+// ── A part, read where it stands ────────────────────────────────────────────────────────────────
 
-// Counts, offsets, phase and the three zero bytes.
-fn header_ok(image: &[u8]) -> bool
+pub fn day_in(image: &[u8]) -> u16
     requires { ⌜ length (now image) ≡ 5696 ⌝ }
-    ensures { λ r. ⌜ r ≡ headerOk (now (image .entry)) ⌝ }
+    ensures { λ r. ⌜ r ≡ dayIn (now (image .entry)) ⌝ }
 {
-    (wire::get_u16(image, 0) == 96)
-        & (wire::get_u16(image, 2) == 128)
-        & (wire::get_u16(image, 4) == 8)
-        & (wire::get_u32(image, 8) == 32)
-        & (wire::get_u32(image, 12) == 1568)
-        & (wire::get_u32(image, 16) == 1600)
-        & (image[20] <= 1)
-        & (image[21] == 0)
-        & (image[22] == 0)
-        & (image[23] == 0)
+    wire::get_u16(image, 6)
+}
+
+pub fn afternoon_in(image: &[u8]) -> bool
+    requires { ⌜ length (now image) ≡ 5696 ⌝ }
+    ensures { λ r. ⌜ r ≡ afternoonIn (now (image .entry)) ⌝ }
+{
+    image[20] == 1
+}
+
+pub fn total_in(image: &[u8]) -> Fen
+    requires { ⌜ length (now image) ≡ 5696 ⌝ }
+    ensures { λ r. ⌜ r ≡ fen (totalIn (now (image .entry))) ⌝ }
+{
+    Fen(wire::get_u64(image, 24))
+}
+
+fn account_in(s: &[u8]) -> Account
+    requires { ⌜ length (now s) ≡ 16 ⌝ }
+    ensures { λ r. ⌜ r ≡ accountIn (now (s .entry)) ⌝ }
+{
+    Account {
+        free: Fen(wire::get_u64(s, 0)),
+        frozen: Fen(wire::get_u64(s, 8)),
+    }
+}
+
+pub fn account_at(image: &[u8], k: usize) -> Account
+    requires { ⌜ (length (now image) ≡ 5696) × (k < 96) ⌝ }
+    ensures { λ r. ⌜ r ≡ accountIn (recordAt 32 16 (now (image .entry)) k) ⌝ }
+{
+    let at = 32 + k * 16;
+    let end = at + 16;
+    account_in(&image[at..end])
+}
+
+pub fn ask_at(image: &[u8], k: usize) -> YuanPerTonne
+    requires { ⌜ (length (now image) ≡ 5696) × (k < 8) ⌝ }
+    ensures { λ r. ⌜ r ≡ askIn (recordAt 1568 4 (now (image .entry)) k) ⌝ }
+{
+    YuanPerTonne(wire::get_u32(image, 1568 + k * 4))
 }
 
 fn record_in(s: &[u8]) -> Record
@@ -67,35 +99,61 @@ fn record_in(s: &[u8]) -> Record
     }
 }
 
-fn account_in(s: &[u8]) -> Account
-    requires { ⌜ length (now s) ≡ 16 ⌝ }
-    ensures { λ r. ⌜ r ≡ accountIn (now (s .entry)) ⌝ }
+pub fn record_at(image: &[u8], k: usize) -> Record
+    requires { ⌜ (length (now image) ≡ 5696) × (k < 128) ⌝ }
+    ensures { λ r. ⌜ r ≡ recordIn (recordAt 1600 32 (now (image .entry)) k) ⌝ }
 {
-    Account {
-        free: Fen(wire::get_u64(s, 0)),
-        frozen: Fen(wire::get_u64(s, 8)),
-    }
+    let at = 1600 + k * 32;
+    let end = at + 32;
+    record_in(&image[at..end])
 }
 
-pub struct Asks {
-    pub ok: bool,
-    pub all: [YuanPerTonne; 8],
+// A lot's state and contract, without the rest of its record.
+pub fn state_at(image: &[u8], k: usize) -> u8
+    requires { ⌜ (length (now image) ≡ 5696) × (k < 128) ⌝ }
+    ensures { λ r. ⌜ r ≡ recordIn (recordAt 1600 32 (now (image .entry)) k) .state ⌝ }
+{
+    image[1601 + k * 32]
 }
 
-fn read_asks(image: &[u8]) -> Asks
+pub fn contract_at(image: &[u8], k: usize) -> u8
+    requires { ⌜ (length (now image) ≡ 5696) × (k < 128) ⌝ }
+    ensures { λ r. ⌜ r ≡ recordIn (recordAt 1600 32 (now (image .entry)) k) .contract ⌝ }
+{
+    image[1604 + k * 32]
+}
+
+// ── The verdict ─────────────────────────────────────────────────────────────────────────────────
+
+// Counts, offsets, phase and the three zero bytes.
+fn header_ok(image: &[u8]) -> bool
     requires { ⌜ length (now image) ≡ 5696 ⌝ }
-    ensures { λ r. ⌜ (r .ok ≡ all askOk (asksIn (now (image .entry)))) × (r .all ≡ asksIn (now (image .entry))) ⌝ }
+    ensures { λ r. ⌜ r ≡ headerOk (now (image .entry)) ⌝ }
 {
-    let mut a = [YuanPerTonne(0); 8];
+    (wire::get_u16(image, 0) == 96)
+        & (wire::get_u16(image, 2) == 128)
+        & (wire::get_u16(image, 4) == 8)
+        & (wire::get_u32(image, 8) == 32)
+        & (wire::get_u32(image, 12) == 1568)
+        & (wire::get_u32(image, 16) == 1600)
+        & (image[20] <= 1)
+        & (image[21] == 0)
+        & (image[22] == 0)
+        & (image[23] == 0)
+}
+
+// Whether each ask is none or a price.
+fn asks_ok(image: &[u8]) -> bool
+    requires { ⌜ length (now image) ≡ 5696 ⌝ }
+    ensures { λ r. ⌜ r ≡ all askOk (asksIn (now (image .entry))) ⌝ }
+{
     let mut ok = true;
     let mut i: usize = 0;
     while i < 8 {
-        let ask = YuanPerTonne(wire::get_u32(image, 1568 + i * 4));
-        a[i] = ask;
-        ok = ok & zone::ask_ok(ask);
+        ok = ok & zone::ask_ok(ask_at(image, i));
         i += 1;
     }
-    Asks { ok: ok, all: a }
+    ok
 }
 
 // The sum, or one fen above the limit where it passes the limit: no content of an image wraps it.
@@ -109,34 +167,19 @@ fn add_up_to(a: u64, b: u64) -> u64
     a + b
 }
 
-pub struct Accounts {
-    pub money: u64,
-    pub all: [Account; 96],
-}
-
-// Each account, and all their money up to the limit.
-fn read_accounts(image: &[u8]) -> Accounts
+// All money of the accounts, up to the limit.
+fn money_in(image: &[u8]) -> u64
     requires { ⌜ length (now image) ≡ 5696 ⌝ }
-    ensures { λ r. ⌜ (r .money ≡ moneyUpTo (accountsIn (now (image .entry)))) × (r .all ≡ accountsIn (now (image .entry))) ⌝ }
+    ensures { λ r. ⌜ r ≡ moneyUpTo (accountsIn (now (image .entry))) ⌝ }
 {
-    let mut a = [Account {
-        free: Fen(0),
-        frozen: Fen(0),
-    }; 96];
     let mut money: u64 = 0;
     let mut i: usize = 0;
     while i < 96 {
-        let at = 32 + i * 16;
-        let end = at + 16;
-        let x = account_in(&image[at..end]);
-        a[i] = x;
-        money = add_up_to(add_up_to(money, x.free.0), x.frozen.0);
+        let a = account_at(image, i);
+        money = add_up_to(add_up_to(money, a.free.0), a.frozen.0);
         i += 1;
     }
-    Accounts {
-        money: money,
-        all: a,
-    }
+    money
 }
 
 // What a record's lot holds; nothing where the record is not valid.
@@ -151,104 +194,71 @@ fn hold_in(r: Record, ok: bool) -> Hold
     }
 }
 
-pub struct Receipts {
+pub struct Records {
     pub ok: bool,
-    pub all: [Receipt; 128],
     // what the lots hold from each account; place 0 is nobody's
     pub sums: [u64; 97],
 }
 
-// One walk over the records: each receipt, whether all are valid, and what the lots hold from each account.
-fn read_receipts(image: &[u8]) -> Receipts
+// One walk over the records: whether all are valid, and what the lots hold from each account.
+fn judge_records(image: &[u8]) -> Records
     requires { ⌜ length (now image) ≡ 5696 ⌝ }
-    ensures { λ r. ⌜ (r .ok ≡ all recordValid (recordsIn (now (image .entry)))) × (r .all ≡ receiptsIn (now (image .entry))) × (r .sums ≡ heldSums (recordsIn (now (image .entry)))) ⌝ }
+    ensures { λ r. ⌜ (r .ok ≡ all recordValid (recordsIn (now (image .entry)))) × (r .sums ≡ heldSums (recordsIn (now (image .entry)))) ⌝ }
 {
-    let blank = zone::no_receipt();
-    let mut a = [blank; 128];
     let mut sums = [0u64; 97];
     let mut ok = true;
     let mut i: usize = 0;
     while i < 128 {
-        let at = 1600 + i * 32;
-        let end = at + 32;
-        let r = record_in(&image[at..end]);
+        let r = record_at(image, i);
         let good = zone::record_ok(r);
         let h = hold_in(r, good);
         let by = h.by as usize;
         let fen = h.fen.0;
         sums[by] = sums[by] + fen;
-        a[i] = zone::receipt_of(r);
         ok = ok & good;
         i += 1;
     }
-    Receipts {
-        ok: ok,
-        all: a,
-        sums: sums,
-    }
+    Records { ok: ok, sums: sums }
 }
 
 // Whether each frozen is what the lots hold from that account.
-fn frozen_ok(accounts: [Account; 96], sums: [u64; 97]) -> bool
-    ensures { λ r. ⌜ r ≡ frozenMatches accounts sums ⌝ }
+fn frozen_ok(image: &[u8], sums: [u64; 97]) -> bool
+    requires { ⌜ length (now image) ≡ 5696 ⌝ }
+    ensures { λ r. ⌜ r ≡ frozenMatches (accountsIn (now (image .entry))) sums ⌝ }
 {
     let mut ok = true;
     let mut i: usize = 0;
     while i < 96 {
-        let a = accounts[i];
+        let a = account_at(image, i);
         ok = ok & (a.frozen.0 == sums[i + 1]);
         i += 1;
     }
     ok
 }
 
-pub struct Reading {
-    pub ok: bool,
-    pub zone: Zone,
-}
-
-// The verdict on any bytes, and the zone that valid bytes are.
-pub fn read_image(image: &[u8]) -> Reading
-    ensures { λ r. ⌜ (r .ok ≡ validImage (now (image .entry))) × (r .ok ≡ true → r .zone ≡ decode (now (image .entry))) ⌝ }
+// The verdict on any bytes.
+pub fn image_ok(image: &[u8]) -> bool
+    ensures { λ r. ⌜ r ≡ validImage (now (image .entry)) ⌝ }
 {
     if image.len() != 5696 {
-        return Reading {
-            ok: false,
-            zone: zone::fresh_zone(),
-        };
+        return false;
     }
     let header = header_ok(image);
-    let day = wire::get_u16(image, 6);
-    let total = wire::get_u64(image, 24);
-    let asks = read_asks(image);
-    let accounts = read_accounts(image);
-    let receipts = read_receipts(image);
-    let asks_all = asks.all;
-    let accounts_all = accounts.all;
-    let receipts_all = receipts.all;
-    let sums = receipts.sums;
+    let day = day_in(image);
+    let total = total_in(image);
+    let records = judge_records(image);
+    let sums = records.sums;
     let books = (1 <= day)
         & (day <= 30000)
-        & asks.ok
-        & receipts.ok
-        & frozen_ok(accounts_all, sums)
-        & (total == accounts.money)
-        & (total <= 1000000000000000);
-    let zone = Zone {
-        day: day,
-        afternoon: image[20] == 1,
-        asks: asks_all,
-        accounts: accounts_all,
-        receipts: receipts_all,
-        total: Fen(total),
-    };
-    Reading {
-        ok: header & books,
-        zone: zone,
-    }
+        & asks_ok(image)
+        & records.ok
+        & frozen_ok(image, sums)
+        & (total.0 == money_in(image))
+        & (total.0 <= 1000000000000000);
+    header & books
 }
 
-// ── Writing ─────────────────────────────────────────────────────────────────────────────────────
+// ── A whole zone ────────────────────────────────────────────────────────────────────────────────
 
 pub fn phase(afternoon: bool) -> u8
     ensures { λ r. ⌜ r ≡ cond afternoon 1 0 ⌝ }
@@ -412,4 +422,50 @@ pub fn write_image(image: &mut [u8], z: Zone)
     put_asks(image, asks);
     let receipts = z.receipts;
     put_receipts(image, receipts);
+}
+
+// ── A part, put where it stands ─────────────────────────────────────────────────────────────────
+
+pub fn set_clock(image: &mut [u8], day: u16, afternoon: bool)
+    requires { ⌜ now image ≡ encode (decode (now image)) ⌝ }
+    ensures { λ _. ⌜ now (image .exit) ≡ encode (withClock (decode (now (image .entry))) day afternoon) ⌝ }
+{
+    wire::put_u16(image, 6, day);
+    image[20] = phase(afternoon);
+}
+
+pub fn set_total(image: &mut [u8], total: Fen)
+    requires { ⌜ now image ≡ encode (decode (now image)) ⌝ }
+    ensures { λ _. ⌜ now (image .exit) ≡ encode (withTotal (decode (now (image .entry))) total) ⌝ }
+{
+    wire::put_u64(image, 24, total.0);
+}
+
+pub fn set_account(image: &mut [u8], k: usize, a: Account)
+    requires { ⌜ (now image ≡ encode (decode (now image))) × (k < 96) ⌝ }
+    ensures { λ _. ⌜ now (image .exit) ≡ encode (withAccounts (decode (now (image .entry))) (set (decode (now (image .entry)) .accounts) k a)) ⌝ }
+{
+    put_account(image, 32 + k * 16, a);
+}
+
+pub fn set_ask(image: &mut [u8], k: usize, ask: YuanPerTonne)
+    requires { ⌜ (now image ≡ encode (decode (now image))) × (k < 8) ⌝ }
+    ensures { λ _. ⌜ now (image .exit) ≡ encode (withAsks (decode (now (image .entry))) (set (decode (now (image .entry)) .asks) k ask)) ⌝ }
+{
+    wire::put_u32(image, 1568 + k * 4, ask.0);
+}
+
+// Every ask is none.
+pub fn clear_asks(image: &mut [u8])
+    requires { ⌜ now image ≡ encode (decode (now image)) ⌝ }
+    ensures { λ _. ⌜ now (image .exit) ≡ encode (withAsks (decode (now (image .entry))) (replicate 8 (record { 0 = 0 }))) ⌝ }
+{
+    wire::put_zeros(image, 1568, 32);
+}
+
+pub fn set_receipt(image: &mut [u8], k: usize, r: Receipt)
+    requires { ⌜ (now image ≡ encode (decode (now image))) × (k < 128) ⌝ }
+    ensures { λ _. ⌜ now (image .exit) ≡ encode (withReceipts (decode (now (image .entry))) (set (decode (now (image .entry)) .receipts) k r)) ⌝ }
+{
+    put_record(image, 1600 + k * 32, zone::record_of(r));
 }

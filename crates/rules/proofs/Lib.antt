@@ -1,2 +1,1 @@
-pub mod AtIndex
 pub mod KindsLaws

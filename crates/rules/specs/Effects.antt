@@ -17,6 +17,7 @@ use Rattle.zone.specs.declared.Receipt.{Receipt}
 use Rattle.zone.specs.declared.Record.{Record}
 use Rattle.zone.specs.declared.Zone.{Zone}
 use Rattle.zone.specs.Held.{full}
+use Rattle.zone.specs.Parts.{withAccounts, withAsks, withClock, withTotal}
 use Rattle.zone.specs.Record.{recordOf, listingOf, bidOf, tradeOf, noInvoices}
 use Rattle.rules.specs.declared.Call.{Call}
 use Rattle.rules.specs.declared.Entry.{Entry}
@@ -202,16 +203,7 @@ ruleAt c z n =
 -- ── Opening and ending ─────────────────────────────────────────────────────────────────────────
 
 abbrev pub withMoney : Zone → List Account → ℕ → Zone
-withMoney z accounts total =
-    record { day = z .day; afternoon = z .afternoon; asks = z .asks; accounts = accounts; receipts = z .receipts; total = fen total }
-
-abbrev pub withAsks : Zone → List YuanPerTonne → Zone
-withAsks z asks =
-    record { day = z .day; afternoon = z .afternoon; asks = asks; accounts = z .accounts; receipts = z .receipts; total = z .total }
-
-abbrev pub withClock : Zone → ℕ → Bool → Zone
-withClock z day afternoon =
-    record { day = day; afternoon = afternoon; asks = z .asks; accounts = z .accounts; receipts = z .receipts; total = z .total }
+withMoney z accounts total = withTotal (withAccounts z accounts) (fen total)
 
 -- "1. Pay in, 2. take out (account, amount): free and total change." Kind 9 "sets the ask". Number 11 keeps what is taken out within
 -- the account's free money, and the total has all money in it, so the difference never stops at 0.

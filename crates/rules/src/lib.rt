@@ -1,6 +1,5 @@
 // What each kind of call does, on values.
 pub mod kinds;
-pub mod money;
 
 use units::Fen;
 use units::YuanPerTonne;

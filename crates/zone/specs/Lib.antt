@@ -1,5 +1,6 @@
 pub mod Record
 pub mod Held
 pub mod Valid
+pub mod Parts
 pub mod ByState
 pub mod Laws

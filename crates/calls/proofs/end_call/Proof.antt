@@ -1,24 +1,81 @@
 -- Only a morning close and a day close have an ending.
+use mathlib.Core.Path.{_≡_, ap, _∙_}
+use Prim.Native.Nat.{_+_, _≤_}
+use native.Mathlib.Omega.{arith}
+use denote.Ref.{now}
+use Rattle.image.specs.Image.{decode, encode}
+use mathlib.Core.Bool.{false}
 use borrow.Author.Tests.{ne-eqb}
+use Rattle.rules.specs.declared.Call.{Call}
+use Rattle.zone.specs.declared.Zone.{Zone}
+use Rattle.zone.specs.Parts.{withClock}
+use Rattle.image.specs.Laws.RoundTrip.{same-long}
 use Rattle.rules.specs.Effects.{ending}
+use Rattle.calls.specs.Laws.Held.{good-fits, same, cleared}
 use borrow.Author.Needs.{needs}
 use Rattle.calls.proofs.end_call.Statement.{statement}
 use Rattle.calls.proofs.end_call.Tie as tie
 
-add-after : tie.Need-add-after
-add-after c = search needs
+as-was : (c : Call) (z : Zone) → (c .kind ≡ 11 → ⊥) → (c .kind ≡ 15 → ⊥) → z ≡ ending c z
+unfolding ending
+as-was c z p q = rw (ne-eqb _ 11 p, ne-eqb _ 15 q)
+
+day-in-requires : tie.Need-day-in-requires
+day-in-requires c κs = same-long _ (c .before .before .pre .0)
+
+set-clock-requires : tie.Need-set-clock-requires
+set-clock-requires c κs = c .before .before .before .before .before .pre .0
+
+clear-asks-requires : tie.Need-clear-asks-requires
+clear-asks-requires c κs = c .before .before .before .before .before .pre .0
+
+add-set-clock : tie.Need-add-set-clock
+unfolding decode
+add-set-clock c =
+    let h : c .before .before .before .before .before .before .day-in .result ≤ 30000 = rw (c .before .before .before .before .before .before .day-in .ensures) (c .before .before .before .before .before .before .before .before .before .pre .1 .day .high) in
+    omega arith
+
+set-clock-requires-2 : tie.Need-set-clock-requires-2
+set-clock-requires-2 c κs =
+    let s = now (c .before .before .before .before .before .before .before .before .before .args .image) in
+    same _ _ (c .before .before .before .clear-asks .ensures) (cleared s _ (good-fits _ (c .before .before .before .before .before .before .before .before .before .pre .1)) (c .before .before .before .clear-asks .ensures))
+
+same-length : tie.Need-same-length
+same-length c = search needs
 
 returns : tie.Need-returns
-unfolding ending
-returns c = rw (c .match .keys1)
+unfolding ending decode
+returns c = c .before .before .set-clock .ensures ∙ rw (c .before .before .before .before .before .day-in .ensures, c .before .before .before .before .match .keys1)
+
+same-length-2 : tie.Need-same-length-2
+same-length-2 c = search needs
 
 returns-2 : tie.Need-returns-2
-unfolding ending
-returns-2 c = rw (c .before .match .keys2)
+unfolding ending decode
+returns-2 c =
+    let s = now (c .before .before .before .before .before .before .before .before .before .before .before .before .args .image) in
+    c .before .before .set-clock2 .ensures
+    ∙ ap (λ (y : Zone). encode (withClock y (c .before .before .before .before .before .before .before .before .before .day-in .result + 1) false)) (cleared s _ (good-fits _ (c .before .before .before .before .before .before .before .before .before .before .before .before .pre .1)) (c .before .before .before .before .before .before .clear-asks .ensures))
+    ∙ rw (c .before .before .before .before .before .before .before .before .before .day-in .ensures, c .before .before .before .before .before .before .before .before .match .keys2)
+
+same-length-3 : tie.Need-same-length-3
+same-length-3 c = search needs
 
 returns-3 : tie.Need-returns-3
-unfolding ending
-returns-3 c = rw (ne-eqb _ 11 (c .match .rest .0 .1), ne-eqb _ 15 (c .match .rest .1))
+returns-3 c = c .before .before .before .before .pre .0 ∙ ap encode (as-was (c .before .before .before .before .args .c) _ (c .match .rest .0 .1) (c .match .rest .1))
 
 pub end-call-spec : {M : Type 1} → statement M
-end-call-spec = tie.close (tie.spec add-after returns returns-2 returns-3)
+end-call-spec =
+    tie.close
+    (tie.spec
+    day-in-requires
+    set-clock-requires
+    clear-asks-requires
+    add-set-clock
+    set-clock-requires-2
+    same-length
+    returns
+    same-length-2
+    returns-2
+    same-length-3
+    returns-3)

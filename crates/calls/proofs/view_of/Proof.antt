@@ -1,4 +1,5 @@
 -- What the rules read, field by field.
+use Rattle.image.specs.Image.{decode}
 use Rattle.rules.specs.View.{viewOf}
 use borrow.Author.Needs.{needs}
 use Rattle.calls.proofs.view_of.Statement.{statement}
@@ -6,6 +7,12 @@ use Rattle.calls.proofs.view_of.Tie as tie
 
 record-of-requires : tie.Need-record-of-requires
 record-of-requires c κs = search needs
+
+day-in-requires : tie.Need-day-in-requires
+day-in-requires c κs = search needs
+
+afternoon-in-requires : tie.Need-afternoon-in-requires
+afternoon-in-requires c κs = search needs
 
 ask-of-requires : tie.Need-ask-of-requires
 ask-of-requires c κs = search needs
@@ -19,14 +26,20 @@ free-of-requires-2 c κs = search needs
 free-of-requires-3 : tie.Need-free-of-requires-3
 free-of-requires-3 c κs = search needs
 
+total-in-requires : tie.Need-total-in-requires
+total-in-requires c κs = search needs
+
 returns : tie.Need-returns
-unfolding viewOf
+unfolding viewOf decode
 returns c =
     rw (
-      c .free-of3 .ensures,
-      c .before .free-of2 .ensures,
-      c .before .before .free-of .ensures,
-      c .before .before .before .ask-of .ensures,
+      c .total-in .ensures,
+      c .before .free-of3 .ensures,
+      c .before .before .free-of2 .ensures,
+      c .before .before .before .free-of .ensures,
+      c .before .before .before .before .ask-of .ensures,
+      c .before .before .before .before .before .afternoon-in .ensures,
+      c .before .before .before .before .before .before .day-in .ensures,
       c .before .before .before .before .before .before .before .record-of .ensures,
     )
 
@@ -35,8 +48,11 @@ view-of-spec =
     tie.close
     (tie.spec
     record-of-requires
+    day-in-requires
+    afternoon-in-requires
     ask-of-requires
     free-of-requires
     free-of-requires-2
     free-of-requires-3
+    total-in-requires
     returns)

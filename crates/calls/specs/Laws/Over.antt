@@ -15,7 +15,7 @@ use Rattle.rules.specs.Effects.{ruleOf, quoteLot, closeLot, dayCloseLot}
 use Rattle.rules.specs.Tables.{among}
 use Rattle.calls.specs.Concerned.{concerned}
 
-pub passed-over : (v : View) (c : Call) (n : ℕ) (r : Receipt) → concerned c r ≡ false → ruleOf (c .kind) v c n r ≡ NoEvent
+pub passed-over : (v : View) (c : Call) (n : ℕ) (r : Receipt) → concerned c (recordOf r .state) (recordOf r .contract) ≡ false → ruleOf (c .kind) v c n r ≡ NoEvent
 unfolding concerned ruleOf quoteLot closeLot dayCloseLot
 passed-over v c n r h = go (eqb (c .kind) 9) (eqb (c .kind) 11) (eqb (c .kind) 15) refl refl refl
   where

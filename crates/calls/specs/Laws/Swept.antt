@@ -14,20 +14,20 @@ use Rattle.rules.specs.declared.Entry.{Entry}
 use Rattle.rules.specs.declared.Step.{Step}
 use Rattle.rules.specs.declared.Step.the-variants.{Refused, NoEvent, Event}
 use Rattle.rules.specs.Effects.{ruleAt}
-use Rattle.rules.specs.Events.{Done, happen, after, sweep}
+use Rattle.rules.specs.Events.{Done, after, sweep}
 use Rattle.rules.specs.Laws.Chain.{Visit, swept, Path}
 use Rattle.rules.specs.Laws.Good.{Good}
 use Rattle.rules.specs.Laws.Links.{after-good}
 use Rattle.rules.specs.View.{receiptAt}
-use Rattle.calls.specs.declared.Swept.{Swept}
+use Rattle.calls.specs.declared.Entries.{Entries}
 use Rattle.calls.specs.Laws.Visits.{Visits, Happens, visit-happens}
-use Rattle.calls.specs.Listed.{noEntry, sweptOf}
+use Rattle.calls.specs.Listed.{noEntry, entriesOf}
 
--- what the code has after one step more
-abbrev pub recorded : Swept → Step → Swept
+-- the entries that the code has after one step more
+abbrev pub recorded : Entries → Step → Entries
 recorded s (Refused n) = s
 recorded s NoEvent = s
-recorded s (Event e r) = record { zone = happen (s .zone) e r; count = s .count + 1; entries = set (s .entries) (s .count) e }
+recorded s (Event e r) = record { count = s .count + 1; all = set (s .all) (s .count) e }
 
 -- what the lots so far did, and one step more
 abbrev further : Done → Step → Done
@@ -70,9 +70,9 @@ sweep-few rule (suc more) n z =
     omega (arith, length-append (after z s .entries) (sweep rule more (suc n) y .entries), few z s, sweep-few rule more (suc n) y)
 
 -- part by part
-pub same-swept : {y z : Zone} {m n : ℕ} {k l : List Entry} → y ≡ z → m ≡ n → k ≡ l
-    → _≡_ {A = Swept} (record { zone = y; count = m; entries = k }) (record { zone = z; count = n; entries = l })
-same-swept p q r = λ i. record { zone = p i; count = q i; entries = r i }
+pub same-entries : {m n : ℕ} {k l : List Entry} → m ≡ n → k ≡ l
+    → _≡_ {A = Entries} (record { count = m; all = k }) (record { count = n; all = l })
+same-entries q r = λ i. record { count = q i; all = r i }
 
 -- the next entry takes the first of the zeros
 next-entry : (l : List Entry) (e : Entry) → length l < 128
@@ -85,11 +85,11 @@ next-entry l e h =
     ∙ set-append-seam l noEntry (replicate k noEntry) e
     ∙ sym (append-assoc l (e ∷ []) (replicate k noEntry))
 
-recorded-more : (d : Done) (s : Step) → length (d .entries) < 128 → recorded (sweptOf d) s ≡ sweptOf (further d s)
-unfolding sweptOf
-recorded-more d (Refused k) h = rw (append-nil (d .entries))
-recorded-more d NoEvent h = rw (append-nil (d .entries))
-recorded-more d (Event e r) h = same-swept refl (sym (length-append (d .entries) (e ∷ []))) (next-entry (d .entries) e h)
+recorded-more : (z : Zone) (l : List Entry) (s : Step) → length l < 128 → recorded (entriesOf l) s ≡ entriesOf (l ++ after z s .entries)
+unfolding entriesOf
+recorded-more z l (Refused k) h = rw (append-nil l)
+recorded-more z l NoEvent h = rw (append-nil l)
+recorded-more z l (Event e r) h = same-entries (sym (length-append l (e ∷ []))) (next-entry l e h)
 
 -- ── The lots of a call, from a good zone ───────────────────────────────────────────────────────
 
@@ -110,37 +110,36 @@ module _ (c : Call) (z : Zone) (first more : ℕ) (G : Good z) (p : Path c z 1 f
       subst (λ (d : Done). Good (d .zone)) (sym (sweep-more (ruleAt c) i first (first + i) z refl))
       (after-good y (good-at i (omega arith)) c (first + i) low high (visit-at i (omega arith)))
 
-  -- the lots so far left s
-  module _ (i : ℕ) (h : i < more) (s : Swept) (e : s ≡ sweptOf (sweep (ruleAt c) i first z)) where
-    good-here : Good (s .zone)
-    unfolding sweptOf
-    good-here = rw e (good-at i (omega arith))
+  -- the lots so far
+  module _ (i : ℕ) (h : i < more) where
+    abbrev so-far : Done
+    so-far = sweep (ruleAt c) i first z
 
-    why-here : Visit c (s .zone) (first + i)
-    unfolding sweptOf
-    why-here = rw e (visit-at i h)
+    good-here : Good (so-far .zone)
+    good-here = good-at i (omega arith)
 
-    -- the entry has room
-    pub room : s .count < 128
-    unfolding sweptOf
-    room = rw e (omega (arith, sweep-few (ruleAt c) i first z, p .low (omega arith), p .high (omega arith)))
+    -- an entry has room
+    pub room : length (so-far .entries) < 128
+    room = omega (arith, sweep-few (ruleAt c) i first z, p .low (omega arith), p .high (omega arith))
 
-    pub visits-at : (r : Receipt) → r ≡ receiptAt (s .zone .receipts) (first + i) → Visits (s .zone) c (first + i) r
-    visits-at r q = record { good = good-here; why = why-here; is = q }
+    pub visits-at : (r : Receipt) → r ≡ receiptAt (so-far .zone .receipts) (first + i) → Visits (so-far .zone) c (first + i) r
+    visits-at r q = record { good = good-here; why = visit-at i h; is = q }
 
-    pub happens-at : (r : Receipt) (e : Entry) (new : Receipt) → r ≡ receiptAt (s .zone .receipts) (first + i)
-        → ruleAt c (s .zone) (first + i) ≡ Event e new → Happens (s .zone) e r new
-    happens-at r e new q t =
+    pub happens-at : (e : Entry) (new : Receipt) → ruleAt c (so-far .zone) (first + i) ≡ Event e new → Happens (so-far .zone) e new
+    happens-at e new t =
         let low : 0 < first + i = omega (arith, p .low (omega arith)) in
         let high : first + i ≤ 128 = omega (arith, p .high (omega arith)) in
-        rw q (visit-happens good-here low high why-here t)
+        visit-happens good-here low high (visit-at i h) t
 
     -- the step at the next lot
-    module _ (step : Step) (q : ruleAt c (s .zone) (first + i) ≡ step) where
-      pub next-at : recorded s step ≡ sweptOf (sweep (ruleAt c) (i + 1) first z)
-      unfolding sweptOf
-      next-at =
-          let d = sweep (ruleAt c) i first z in
-          let few : length (d .entries) < 128 = rw e at room in
-          ap (recorded s) (sym q)
-          ∙ rw (e, add-one i, sweep-more (ruleAt c) i first (first + i) z refl) (recorded-more d (ruleAt c (d .zone) (first + i)) few)
+    module _ (step : Step) (q : ruleAt c (so-far .zone) (first + i) ≡ step) where
+      pub next-zone : after (so-far .zone) step .zone ≡ sweep (ruleAt c) (i + 1) first z .zone
+      next-zone =
+          ap (λ (s : Step). after (so-far .zone) s .zone) (sym q)
+          ∙ rw (add-one i, sweep-more (ruleAt c) i first (first + i) z refl)
+
+      pub next-entries : recorded (entriesOf (so-far .entries)) step ≡ entriesOf (sweep (ruleAt c) (i + 1) first z .entries)
+      next-entries =
+          recorded-more (so-far .zone) (so-far .entries) step room
+          ∙ ap (λ (s : Step). entriesOf (so-far .entries ++ after (so-far .zone) s .entries)) (sym q)
+          ∙ rw (add-one i, sweep-more (ruleAt c) i first (first + i) z refl)

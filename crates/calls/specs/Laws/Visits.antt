@@ -2,7 +2,7 @@
 -- Assumes nothing.
 use mathlib.Core.Bool.{true, false≢true}
 use mathlib.Core.List.{[], _∷_}
-use mathlib.Core.Path.{_≡_, sym, ap, subst}
+use mathlib.Core.Path.{_≡_, subst}
 use Prim.Native.Nat.{ℕ, zero-le, _≤_, _<_}
 use Rattle.zone.specs.declared.Receipt.{Receipt}
 use Rattle.zone.specs.declared.Zone.{Zone}
@@ -31,12 +31,11 @@ pub record Visits (z : Zone) (c : Call) (n : ℕ) (r : Receipt) : Type 0 where
   pub is : r ≡ receiptAt (z .receipts) n
 
 -- at an event
-pub record Happens (z : Zone) (e : Entry) (old new : Receipt) : Type 0 where
+pub record Happens (z : Zone) (e : Entry) (new : Receipt) : Type 0 where
   pub good : Good z
   pub low : 1 ≤ e .lot
   pub high : e .lot ≤ 128
-  pub old-is : old ≡ receiptAt (z .receipts) (e .lot)
-  pub funded : Funded (z .accounts) old e new
+  pub funded : Funded (z .accounts) (receiptAt (z .receipts) (e .lot)) e new
   pub valid : recordValid (recordOf new) ≡ true
 
 -- ── A visited lot ──────────────────────────────────────────────────────────────────────────────
@@ -52,7 +51,7 @@ visit-ready {c} {z} {n} G (named q P) = ready-call z G c n P
 
 -- the event of a visited lot
 pub visit-happens : {c : Call} {z : Zone} {n : ℕ} {e : Entry} {new : Receipt} → Good z → 0 < n → n ≤ 128 → Visit c z n
-    → ruleAt c z n ≡ Event e new → Happens z e (receiptAt (z .receipts) n) new
+    → ruleAt c z n ≡ Event e new → Happens z e new
 visit-happens {c} {z} {n} {e} {new} G a h v q =
     let L : Linked c 0 z n e new = linked n e new a zero-le h v q G in
     let k : e .lot ≡ n = L .fit .entry .lot in
@@ -60,7 +59,6 @@ visit-happens {c} {z} {n} {e} {new} G a h v q =
       good = G;
       low = rw k a;
       high = rw k h;
-      old-is = ap (receiptAt (z .receipts)) (sym k);
-      funded = subst (λ (j : ℕ). Funded (z .accounts) (receiptAt (z .receipts) j) e new) k (link-funded L);
+      funded = link-funded L;
       valid = fit-valid (L .fit);
     }

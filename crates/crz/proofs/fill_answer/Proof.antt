@@ -1,9 +1,13 @@
-use denote.Ref.{now}
+-- Zeros, the header over them, and the entries behind it.
+use mathlib.Core.Bool.{Bool}
 use mathlib.Core.List.{List, map}
 use mathlib.Core.Path.{_≡_, sym, ap, _∙_}
 use Prim.Native.Nat.{ℕ}
+use denote.Ref.{now}
 use lib.ListN.{length, take, replicate, length-map}
 use lib.Seq.{sets, length-take-le}
+use Rattle.units.specs.declared.Fen.{Fen}
+use Rattle.image.specs.Image.{decode}
 use Rattle.image.specs.Table.{tableBytes}
 use Rattle.crz.specs.Buffers.{entryBytes, headerOf}
 use Rattle.crz.specs.Laws.Answer.{answer-filled}
@@ -14,8 +18,26 @@ use Rattle.crz.proofs.fill_answer.Tie as tie
 length-of-map : (X Y : Type 0) (f : X → Y) (l : List X) (n : ℕ) → length (map f l) ≡ n → length l ≡ n
 length-of-map X Y f l n e = sym (length-map l f) ∙ e
 
-entries-long : (c : tie.Start) → length (c .args .s .entries) ≡ 128
+entries-long : (c : tie.Start) → length (c .args .es .all) ≡ 128
 entries-long c = search (needs, length-of-map)
+
+-- the phase and the total are those of the image's zone
+header : (c : tie.After-answer-header) →
+    let a = c .before .before .before .before .before .before .args in
+    let z = decode (now (a .image)) in
+    c .answer-header .result ≡ headerOf (z .afternoon) (a .es .count) (z .total .0)
+unfolding decode
+header c =
+    let a = c .before .before .before .before .before .before .args in
+    c .answer-header .ensures
+    ∙ ap (λ (b : Bool). headerOf b (a .es .count) (c .before .before .total-in .result .0)) (c .before .afternoon-in .ensures)
+    ∙ ap (λ (f : Fen). headerOf (decode (now (a .image)) .afternoon) (a .es .count) (f .0)) (c .before .before .total-in .ensures)
+
+total-in-requires : tie.Need-total-in-requires
+total-in-requires c κs = search needs
+
+afternoon-in-requires : tie.Need-afternoon-in-requires
+afternoon-in-requires c κs = search needs
 
 answer-header-requires : tie.Need-answer-header-requires
 answer-header-requires c κs = search needs
@@ -37,20 +59,24 @@ same-length c = search needs
 
 returns : tie.Need-returns
 returns c =
-    let start = c .before .before .before .before .before .before .before .before .before .before .before .before .before .before .before .before .before in
-    let s = start .args .s in
-    let n : length (take (s .count) (s .entries)) ≡ s .count = length-take-le (s .count) (s .entries) (rw (entries-long start) (start .pre .1)) in
+    let a = c .before .before .before .before .before .before .before .before .before .before .before .before .before .before .before .before .before .before .before .args in
+    let z = decode (now (a .image)) in
+    let es = take (a .es .count) (a .es .all) in
+    let n : length es ≡ a .es .count = length-take-le (a .es .count) (a .es .all) (rw (entries-long (c .before .before .before .before .before .before .before .before .before .before .before .before .before .before .before .before .before .before .before)) (c .before .before .before .before .before .before .before .before .before .before .before .before .before .before .before .before .before .before .before .pre .2)) in
     c .before .before .put-entries .ensures
-    ∙ ap (λ (t : List ℕ). sets t 16 (tableBytes entryBytes (take (s .count) (s .entries)))) (c .before .before .before .before .before .before .put-run .ensures
-    ∙ ap (λ (h : List ℕ). sets (c .before .before .before .before .before .before .before .before .before .before .before .put-zeros .last .0) 0 h) (c .before .before .before .before .before .before .before .before .before .before .before .before .before .answer-header .ensures)
-    ∙ ap (λ (t : List ℕ). sets t 0 (headerOf (s .zone .afternoon) (s .count) (s .zone .total .0))) (c .before .before .before .before .before .before .before .before .before .before .before .put-zeros .ensures)
-    ∙ ap (λ (k : ℕ). sets (sets (now (start .args .answer)) 0 (replicate 1040 0)) 0 (headerOf (s .zone .afternoon) k (s .zone .total .0))) (sym n))
-    ∙ answer-filled (now (start .args .answer)) (s .zone) (take (s .count) (s .entries)) (start .pre .0) (rw n (start .pre .1))
+    ∙ ap (λ (t : List ℕ). sets t 16 (tableBytes entryBytes es))
+    (c .before .before .before .before .before .before .put-run .ensures
+    ∙ ap (λ (h : List ℕ). sets (c .before .before .before .before .before .before .before .before .before .before .before .put-zeros .last .0) 0 h) (header (c .before .before .before .before .before .before .before .before .before .before .before .before .before))
+    ∙ ap (λ (t : List ℕ). sets t 0 (headerOf (z .afternoon) (a .es .count) (z .total .0))) (c .before .before .before .before .before .before .before .before .before .before .before .put-zeros .ensures)
+    ∙ ap (λ (k : ℕ). sets (sets (now (a .answer)) 0 (replicate 1040 0)) 0 (headerOf (z .afternoon) k (z .total .0))) (sym n))
+    ∙ answer-filled (now (a .answer)) z es (c .before .before .before .before .before .before .before .before .before .before .before .before .before .before .before .before .before .before .before .pre .0) (rw n (c .before .before .before .before .before .before .before .before .before .before .before .before .before .before .before .before .before .before .before .pre .2))
 
 pub fill-answer-spec : {M : Type 1} → statement M
 fill-answer-spec =
     tie.close
     (tie.spec
+    total-in-requires
+    afternoon-in-requires
     answer-header-requires
     put-zeros-requires
     slice-aggregate-put-run

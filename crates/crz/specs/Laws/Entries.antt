@@ -1,7 +1,7 @@
 -- A call lists at most 128 entries, and the code's array gives them back.
 -- Assumes nothing.
 use mathlib.Core.Bool.{Bool, true, false, cond}
-use mathlib.Core.List.{[], _∷_}
+use mathlib.Core.List.{List, [], _∷_}
 use mathlib.Core.Path.{_≡_}
 use Prim.Native.Nat.{_≤_}
 use native.Mathlib.Omega.{arith}
@@ -9,11 +9,11 @@ use lib.ListN.{length, take}
 use lib.Seq.{take-append-seam}
 use Rattle.zone.specs.declared.Zone.{Zone}
 use Rattle.rules.specs.declared.Call.{Call}
+use Rattle.rules.specs.declared.Entry.{Entry}
 use Rattle.rules.specs.Effects.{ruleAt, opening, firstLot, lotCount, effect}
-use Rattle.rules.specs.Events.{Done}
 use Rattle.rules.specs.Tables.{among}
 use Rattle.calls.specs.Laws.Swept.{sweep-few}
-use Rattle.calls.specs.Listed.{sweptOf}
+use Rattle.calls.specs.Listed.{entriesOf}
 
 lots-few : (c : Call) → lotCount c ≤ 128
 unfolding lotCount
@@ -29,6 +29,10 @@ unfolding effect
 effect-few z c = omega (arith, lots-few c, sweep-few (ruleAt c) (lotCount c) (firstLot c) (opening c z))
 
 -- the entries that stand in the array
-pub entries-listed : (d : Done) → take (sweptOf d .count) (sweptOf d .entries) ≡ d .entries
-unfolding sweptOf
-entries-listed d = take-append-seam (d .entries) _
+pub entries-listed : (es : List Entry) → take (entriesOf es .count) (entriesOf es .all) ≡ es
+unfolding entriesOf
+entries-listed es = take-append-seam es _
+
+pub count-few : (z : Zone) (c : Call) → entriesOf (effect z c .entries) .count ≤ 128
+unfolding entriesOf
+count-few z c = effect-few z c

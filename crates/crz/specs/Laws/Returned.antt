@@ -5,20 +5,16 @@ use mathlib.Core.List.{List}
 use mathlib.Core.Path.{_≡_, refl, sym, ap, _∙_, subst}
 use Prim.Native.Nat.{ℕ, zero, suc, _≤_, _<_}
 use native.Mathlib.Omega.{arith}
-use borrow.Author.Tests.{lt-ltb, le-ltb, ne-eqb, eqb-true}
+use borrow.Author.Tests.{lt-ltb, le-ltb, ne-eqb}
 use lib.Dec.{eqb, ltb}
 use lib.ListN.{length}
 use Rattle.zone.specs.declared.Zone.{Zone}
-use Rattle.zone.specs.Laws.Tests.{both}
-use Rattle.zone.specs.Valid.{validZone}
 use Rattle.rules.specs.declared.Call.{Call}
 use Rattle.rules.specs.Effects.{effect}
 use Rattle.rules.specs.Numbers.{illFormed, number}
 use Rattle.rules.specs.Order.{asRuled}
 use Rattle.rules.specs.Outcome.{numberOf}
-use Rattle.rules.specs.Sized.{Sized}
 use Rattle.image.specs.Image.{validImage, decode, encode}
-use Rattle.image.specs.Laws.RoundTrip.{decode-accounts, decode-receipts, decode-asks, valid-decode}
 use Rattle.crz.specs.Buffers.{callIn, noCall, callOrNone, refusedAnswer, acceptedAnswer}
 use Rattle.crz.specs.Returned.{numberOr, numberWith, numberFor, refusal, Left, turnedDown, carriedOut, ReturnedWith, Returned}
 
@@ -51,16 +47,6 @@ module _ (image : List ℕ) (c : Call) (answer : List ℕ) where
   pub call-with : 1040 ≤ length answer → validImage image ≡ true → numberWith image c answer ≡ numberOf (decode image) c
   unfolding numberWith
   call-with h v = call-number image answer _ h v
-
--- what a valid image is
-pub image-long : (image : List ℕ) → validImage image ≡ true → length image ≡ 5696
-unfolding validImage
-image-long image v = eqb-true _ _ (both _ _ (both _ _ v .0) .0)
-
-pub valid-zone : (image : List ℕ) (z : Zone) → validImage image ≡ true → z ≡ decode image → Sized z × (validZone z ≡ true)
-valid-zone image z v e =
-    subst (λ (y : Zone). Sized y × (validZone y ≡ true)) (sym e)
-    (record { accounts = decode-accounts image; receipts = decode-receipts image; asks = decode-asks image }, valid-decode image v)
 
 -- ── The answer of a refusal ────────────────────────────────────────────────────────────────────
 

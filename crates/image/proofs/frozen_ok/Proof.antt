@@ -1,32 +1,31 @@
--- `frozen_ok` meets its contract. The loop's invariant: the test of the first i accounts. The measure is what is left of the 96.
-use mathlib.Core.Path.{_≡_, refl, _∙_}
-use Prim.Native.Nat.{_≤_, _<_, _+_, _-_}
-use native.Mathlib.Numerals.{add-one}
+-- The test of the first i accounts; the measure is what is left of the 96.
+use mathlib.Core.Path.{_≡_, refl, ap, _∙_}
+use Prim.Native.Nat.{ℕ, _≤_, _+_, _-_}
 use native.Mathlib.Omega.{arith}
-use borrow.Author.Needs.{needs}
-use lib.ListN.{length, take}
-use lib.Seq.{take-suc, take-all, length-take-le}
-use Rattle.zone.specs.Valid.{nothing}
+use denote.Ref.{now}
+use lib.ListN.{length}
+use Rattle.zone.specs.declared.Account.{Account}
+use Rattle.image.specs.Table.{table, recordAt}
+use Rattle.image.specs.Layout.{accountIn, accountsIn}
 use Rattle.image.specs.Sums.{frozenFrom}
+use Rattle.image.specs.Laws.Table.{table-suc, length-table}
 use Rattle.image.specs.Laws.Turns.{frozen-one}
+use borrow.Author.Needs.{needs}
 use Rattle.image.proofs.frozen_ok.Statement.{statement}
 use Rattle.image.proofs.frozen_ok.Tie as tie
 
 abbrev Inv-loop : tie.InvT-loop
-Inv-loop accounts sums ok₀ i₀ ok i = (i ≤ 96) × (length accounts ≡ 96) × (length sums ≡ 97) × (ok ≡ frozenFrom 1 (take i accounts) sums)
+Inv-loop image sums ok₀ i₀ ok i = (i ≤ 96) × (length sums ≡ 97) × (ok ≡ frozenFrom 1 (table i (λ k. accountIn (recordAt 32 16 image k))) sums)
 
 abbrev μ-loop : tie.MeasureT-loop
-μ-loop accounts sums ok₀ i₀ ok i = 96 - i
+μ-loop image sums ok₀ i₀ ok i = 96 - i
 
 loop-holds : tie.Need-loop-holds Inv-loop μ-loop
-unfolding frozenFrom
-loop-holds c = (omega arith, search needs, search needs, refl)
+unfolding frozenFrom table
+loop-holds c = (omega arith, search needs, refl)
 
-mul-a : tie.Need-mul-a Inv-loop μ-loop
-mul-a c = search needs
-
-array-copy-out-a : tie.Need-array-copy-out-a Inv-loop μ-loop
-array-copy-out-a c = search needs
+account-at-requires : tie.Need-account-at-requires Inv-loop μ-loop
+account-at-requires c κs = search needs
 
 add-ok : tie.Need-add-ok Inv-loop μ-loop
 add-ok c = search needs
@@ -46,15 +45,17 @@ loop-less c = search needs
 loop-again : tie.Need-loop-again Inv-loop μ-loop
 loop-again c =
     let l = c .before .before .before .loop in
-    let a = c .before .before .before .before .args in
-    let h : l .i < length (a .t1) = omega arith in
-    let n : 1 + length (take (l .i) (a .t1)) ≡ l .i + 1 = omega (arith, length-take-le (l .i) (a .t1) (omega arith)) in
-    (omega arith, l .inv .1, l .inv .2, rw (l .inv .3, add-one, take-suc (a .t1) (l .i) nothing h, frozen-one, n, add-one))
+    let f : ℕ → Account = λ k. accountIn (recordAt 32 16 (now (c .before .before .before .before .before .args .image)) k) in
+    let n : 1 + length (table (l .i) f) ≡ l .i + 1 = omega (arith, length-table (l .i) f) in
+    (omega arith, l .inv .1, rw (c .before .account-at .ensures, l .inv .2, table-suc, frozen-one, n))
 
 returns : tie.Need-returns Inv-loop μ-loop
+unfolding accountsIn
 returns c =
     let l = c .before .loop in
-    l .inv .3 ∙ rw (take-all (l .i) (c .before .before .args .t1) (omega arith))
+    let f : ℕ → Account = λ k. accountIn (recordAt 32 16 (now (c .before .before .before .args .image)) k) in
+    let e : l .i ≡ 96 = omega arith in
+    l .inv .2 ∙ ap (λ (n : ℕ). frozenFrom 1 (table n f) (c .before .before .before .args .t2)) e
 
 pub frozen-ok-spec : {M : Type 1} → statement M
 frozen-ok-spec =
@@ -63,8 +64,7 @@ frozen-ok-spec =
     Inv-loop
     μ-loop
     loop-holds
-    mul-a
-    array-copy-out-a
+    account-at-requires
     add-ok
     mul-ok
     array-read-ok

@@ -3,7 +3,7 @@
 use mathlib.Core.Bool.{true}
 use mathlib.Core.List.{List, [], _++_, map, append-assoc, append-nil}
 use mathlib.Core.Path.{_≡_, refl, sym, ap, _∙_}
-use Prim.Native.Nat.{ℕ, suc, _+_, _*_, _≤_, _<_}
+use Prim.Native.Nat.{ℕ, suc, _+_, _*_, _^_, _≤_, _<_}
 use native.Mathlib.Nat.{suc-mul, mul-le-mul-right}
 use native.Mathlib.Omega.{arith}
 use borrow.Author.Tests.{eqb-true, eq-eqb}
@@ -17,7 +17,8 @@ use Rattle.zone.specs.declared.Receipt.{Receipt}
 use Rattle.zone.specs.declared.Record.{Record}
 use Rattle.zone.specs.declared.Zone.{Zone}
 use Rattle.zone.specs.Record.{recordOf, receiptOf}
-use Rattle.zone.specs.Valid.{askOk, recordValid, booksOk, validZone, freshZone, nothing, noReceipt}
+use Rattle.zone.specs.Held.{allMoney}
+use Rattle.zone.specs.Valid.{all, askOk, recordValid, booksOk, validZone, freshZone, nothing, noReceipt}
 use Rattle.zone.specs.Laws.Back.{receipt-back, record-back as record-same}
 use Rattle.zone.specs.Laws.Held.{money-le}
 use Rattle.zone.specs.Laws.Tests.{both, join}
@@ -36,6 +37,19 @@ none = record { 0 = 0 }
 
 -- ── A zone's bytes ─────────────────────────────────────────────────────────────────────────────
 
+-- What a zone must be to be had back from its bytes. A valid zone is that, and so is one whose money is being moved.
+pub record Fits (z : Zone) : Type 0 where
+  pub day : z .day ≤ 30000
+  pub asks : all askOk (z .asks) ≡ true
+  pub records : all (λ r. recordValid (recordOf r)) (z .receipts) ≡ true
+  pub money : allMoney (z .accounts) ≤ 10 ^ 15
+  pub total : z .total .0 ≤ 10 ^ 15
+
+pub valid-fits : (z : Zone) → validZone z ≡ true → Fits z
+valid-fits z valid =
+    let F = zone-in z valid in
+    record { day = F .day-in .high; asks = F .asks-ok; records = F .records; money = omega (arith, F .total-is, F .total-in); total = F .total-in }
+
 module _ (z : Zone) (na : length (z .accounts) ≡ 96) (nr : length (z .receipts) ≡ 128) (nk : length (z .asks) ≡ 8) where
   -- the four parts of the image
   abbrev header : List ℕ
@@ -50,13 +64,13 @@ module _ (z : Zone) (na : length (z .accounts) ≡ 96) (nr : length (z .receipts
   abbrev receipts : List ℕ
   receipts = tableBytes receiptBytes (z .receipts)
 
-  header-long : length header ≡ 32
+  pub header-long : length header ≡ 32
   header-long = header-wide (z .day) (z .afternoon) (z .total .0)
 
-  accounts-long : length (header ++ accounts) ≡ 1568
+  pub accounts-long : length (header ++ accounts) ≡ 1568
   accounts-long = rw (length-append, header-long, length-tableBytes accountBytes 16 account-wide (z .accounts), na)
 
-  asks-long : length (header ++ accounts ++ asks) ≡ 1600
+  pub asks-long : length (header ++ accounts ++ asks) ≡ 1600
   asks-long = rw (length-append, accounts-long, length-tableBytes askBytes 4 ask-wide (z .asks), nk)
 
   pub length-encode : length (encode z) ≡ 5696
@@ -64,11 +78,11 @@ module _ (z : Zone) (na : length (z .accounts) ≡ 96) (nr : length (z .receipts
   length-encode = rw (length-append, asks-long, length-tableBytes receiptBytes 32 receipt-wide (z .receipts), nr)
 
   -- the header before the rest, and the accounts before the asks
-  header-first : encode z ≡ header ++ (accounts ++ (asks ++ receipts))
+  pub header-first : encode z ≡ header ++ (accounts ++ (asks ++ receipts))
   unfolding encode
   header-first = simp append-assoc
 
-  accounts-first : encode z ≡ header ++ accounts ++ (asks ++ receipts)
+  pub accounts-first : encode z ≡ header ++ accounts ++ (asks ++ receipts)
   unfolding encode
   accounts-first = append-assoc (header ++ accounts) asks receipts
 
@@ -87,21 +101,24 @@ module _ (z : Zone) (na : length (z .accounts) ≡ 96) (nr : length (z .receipts
       let e = record-back receiptBytes 32 receipt-wide noReceipt (header ++ accounts ++ asks) [] (z .receipts) 1600 k asks-long (omega arith) in
       rw append-nil at e
 
-  module _ (valid : validZone z ≡ true) where
+  module _ (F : Fits z) where
     record-valid : (k : ℕ) → k < 128 → recordValid (recordOf (getD (z .receipts) k noReceipt)) ≡ true
-    record-valid k h = all-at (λ (r : Receipt). recordValid (recordOf r)) (z .receipts) k noReceipt (zone-in z valid .records) (omega arith)
+    record-valid k h = all-at (λ (r : Receipt). recordValid (recordOf r)) (z .receipts) k noReceipt (F .records) (omega arith)
+
+    -- the record of receipt k is read back
+    pub record-here : (k : ℕ) → k < 128 → recordIn (recordAt 1600 32 (encode z) k) ≡ recordOf (getD (z .receipts) k noReceipt)
+    record-here k h = ap recordIn (receipt-at k h) ∙ record-read (recordOf (getD (z .receipts) k noReceipt)) (record-valid k h)
 
     -- each table is read back
     accounts-back : accountsIn (encode z) ≡ z .accounts
     unfolding accountsIn
     accounts-back =
-        let F = zone-in z valid in
         sym
         (is-table nothing (z .accounts) 96 (λ (k : ℕ). accountIn (recordAt 32 16 (encode z) k)) na
         (λ k h. let m = money-le (z .accounts) k in
         sym
         (ap accountIn (account-at k h)
-        ∙ account-read (getD (z .accounts) k nothing) (omega (arith, F .total-is, F .total-in)) (omega (arith, F .total-is, F .total-in)))))
+        ∙ account-read (getD (z .accounts) k nothing) (omega (arith, F .money)) (omega (arith, F .money)))))
 
     asks-back : asksIn (encode z) ≡ z .asks
     unfolding asksIn
@@ -109,7 +126,7 @@ module _ (z : Zone) (na : length (z .accounts) ≡ 96) (nr : length (z .receipts
         sym
         (is-table none (z .asks) 8 (λ (k : ℕ). askIn (recordAt 1568 4 (encode z) k)) nk
         (λ k h. let a = getD (z .asks) k none in
-        let p : a .0 ≤ 200000 = ask-at-most a (all-at askOk (z .asks) k none (zone-in z valid .asks-ok) (omega arith)) in
+        let p : a .0 ≤ 200000 = ask-at-most a (all-at askOk (z .asks) k none (F .asks) (omega arith)) in
         sym (ap askIn (ask-at k h) ∙ ask-read a (omega arith))))
 
     records-back : recordsIn (encode z) ≡ map recordOf (z .receipts)
@@ -118,34 +135,31 @@ module _ (z : Zone) (na : length (z .accounts) ≡ 96) (nr : length (z .receipts
         sym
         (is-table (recordOf noReceipt) (map recordOf (z .receipts)) 128 (λ (k : ℕ). recordIn (recordAt 1600 32 (encode z) k))
         (length-map (z .receipts) recordOf ∙ nr)
-        (λ k h. List·getD-map recordOf (z .receipts) k noReceipt
-        ∙ sym (ap recordIn (receipt-at k h) ∙ record-read (recordOf (getD (z .receipts) k noReceipt)) (record-valid k h))))
+        (λ k h. List·getD-map recordOf (z .receipts) k noReceipt ∙ sym (record-here k h)))
 
     receipts-back : receiptsIn (encode z) ≡ z .receipts
     unfolding receiptsIn
     receipts-back =
         sym
         (is-table noReceipt (z .receipts) 128 (λ (k : ℕ). receiptOf (recordIn (recordAt 1600 32 (encode z) k))) nr
-        (λ k h. let r = getD (z .receipts) k noReceipt in
-        sym (ap receiptOf (ap recordIn (receipt-at k h) ∙ record-read (recordOf r) (record-valid k h)) ∙ receipt-back r)))
+        (λ k h. sym (ap receiptOf (record-here k h) ∙ receipt-back (getD (z .receipts) k noReceipt))))
 
     day-back : dayIn (encode z) ≡ z .day
     day-back =
         ap dayIn header-first
-        ∙ day-read (z .day) (z .afternoon) (z .total .0) (accounts ++ (asks ++ receipts)) (omega (arith, zone-in z valid .day-in .high))
+        ∙ day-read (z .day) (z .afternoon) (z .total .0) (accounts ++ (asks ++ receipts)) (omega (arith, F .day))
 
     total-back : totalIn (encode z) ≡ z .total .0
     total-back =
         ap totalIn header-first
-        ∙ total-read (z .day) (z .afternoon) (z .total .0) (accounts ++ (asks ++ receipts)) (omega (arith, zone-in z valid .total-in))
+        ∙ total-read (z .day) (z .afternoon) (z .total .0) (accounts ++ (asks ++ receipts)) (omega (arith, F .total))
 
     afternoon-back : afternoonIn (encode z) ≡ z .afternoon
     afternoon-back = ap afternoonIn header-first ∙ afternoon-read (z .day) (z .afternoon) (z .total .0) (accounts ++ (asks ++ receipts))
 
-    -- a valid zone is had back from its bytes
-    pub decode-encode : decode (encode z) ≡ z
+    pub decode-fits : decode (encode z) ≡ z
     unfolding decode
-    decode-encode =
+    decode-fits =
         λ j. record {
           day = day-back j;
           afternoon = afternoon-back j;
@@ -155,6 +169,14 @@ module _ (z : Zone) (na : length (z .accounts) ≡ 96) (nr : length (z .receipts
           total = fen (total-back j);
         }
 
+  module _ (valid : validZone z ≡ true) where
+    fits : Fits z
+    fits = valid-fits z valid
+
+    -- a valid zone is had back from its bytes
+    pub decode-encode : decode (encode z) ≡ z
+    decode-encode = decode-fits fits
+
     -- the bytes of a valid zone are a valid image
     pub valid-encode : validImage (encode z) ≡ true
     unfolding validImage validZone
@@ -162,7 +184,7 @@ module _ (z : Zone) (na : length (z .accounts) ≡ 96) (nr : length (z .receipts
         join
         (join (eq-eqb _ _ length-encode)
         (ap headerOk header-first ∙ header-ok (z .day) (z .afternoon) (z .total .0) (accounts ++ (asks ++ receipts))))
-        (rw (day-back, asks-back, accounts-back, records-back, total-back, ← booksOk-map recordOf) valid)
+        (rw (day-back fits, asks-back fits, accounts-back fits, records-back fits, total-back fits, ← booksOk-map recordOf) valid)
 
     -- and they are bytes
     pub bytes-encode : Bytes (encode z)
@@ -172,7 +194,7 @@ module _ (z : Zone) (na : length (z .accounts) ≡ 96) (nr : length (z .receipts
         (bytes-append (header ++ accounts) asks
         (bytes-append header accounts (header-bytes (z .day) (z .afternoon) (z .total .0)) (bytes-table accountBytes (z .accounts) nothing (λ k h. account-bytes (getD (z .accounts) k nothing))))
         (bytes-table askBytes (z .asks) none (λ k h. ask-bytes (getD (z .asks) k none))))
-        (bytes-table receiptBytes (z .receipts) noReceipt (λ k h. record-bytes (recordOf (getD (z .receipts) k noReceipt)) (record-valid k (omega arith))))
+        (bytes-table receiptBytes (z .receipts) noReceipt (λ k h. record-bytes (recordOf (getD (z .receipts) k noReceipt)) (record-valid fits k (omega arith))))
 
 -- a fresh image is valid
 pub fresh-valid : validImage (encode freshZone) ≡ true
@@ -194,6 +216,24 @@ pub decode-asks : (s : List ℕ) → length (decode s .asks) ≡ 8
 unfolding decode
 decode-asks s = length-asks s
 
+-- what stands in place k of each
+module _ (s : List ℕ) (k : ℕ) where
+  pub account-in-place : k < 96 → accountIn (recordAt 32 16 s k) ≡ getD (decode s .accounts) k nothing
+  unfolding decode accountsIn
+  account-in-place h = sym (getD-table 96 (λ (i : ℕ). accountIn (recordAt 32 16 s i)) k nothing h)
+
+  pub ask-in-place : k < 8 → askIn (recordAt 1568 4 s k) ≡ getD (decode s .asks) k none
+  unfolding decode asksIn
+  ask-in-place h = sym (getD-table 8 (λ (i : ℕ). askIn (recordAt 1568 4 s i)) k none h)
+
+  pub receipt-in-place : k < 128 → receiptOf (recordIn (recordAt 1600 32 s k)) ≡ getD (decode s .receipts) k noReceipt
+  unfolding decode receiptsIn
+  receipt-in-place h = sym (getD-table 128 (λ (i : ℕ). receiptOf (recordIn (recordAt 1600 32 s i))) k noReceipt h)
+
+-- the bytes of a zone are as many as an image has
+pub same-long : (s : List ℕ) → s ≡ encode (decode s) → length s ≡ 5696
+same-long s e = ap length e ∙ length-encode (decode s) (decode-accounts s) (decode-receipts s) (decode-asks s)
+
 -- a valid image as facts
 record ImageIn (s : List ℕ) : Type 0 where
   long : length s ≡ 5696
@@ -208,6 +248,9 @@ image-in s h =
     record { long = eqb-true _ _ (t2 .0); header-is = t2 .1; books = t1 .1 }
 
 module _ (s : List ℕ) (ok : validImage s ≡ true) where
+  pub valid-long : length s ≡ 5696
+  valid-long = image-in s ok .long
+
   record-ok : (k : ℕ) → k < 128 → recordValid (recordIn (recordAt 1600 32 s k)) ≡ true
   unfolding recordsIn
   record-ok k h =

@@ -1,4 +1,4 @@
--- The laws of `table`, a list by its elements, and of `tableBytes`, the bytes of a table; the two loops that fill one and write one.
+-- The laws of `table`, a list by its elements, and of `tableBytes`, the bytes of a table; the loop that writes one.
 -- Assumes nothing.
 use mathlib.Core.Path.{_≡_, refl, sym, ap, _∙_}
 use mathlib.Core.Bool.{Bool, true, false}
@@ -12,7 +12,7 @@ use native.Mathlib.Omega.{arith}
 use borrow.Author.Tests.{eqb-true, eqb-false}
 use lib.Dec.{eqb}
 use lib.ListN.{length, take, drop, getD, set, length-append, length-drop, length-set, List·getD-append}
-use lib.Seq.{sets, take-suc-set, take-suc, take-all, take-at, take-add, take-append-le, drop-drop, drop-append-add, drop-append-le, length-take-le, getD-at, getD-take, getD-drop, getD-set-same, getD-set-other, ext-getD}
+use lib.Seq.{sets, take-suc, take-at, take-add, take-append-le, drop-drop, drop-append-add, drop-append-le, length-take-le, getD-at, getD-take, getD-drop, getD-set-same, getD-set-other, ext-getD}
 use Rattle.wire.specs.LittleEndian.{leAt}
 use Rattle.wire.specs.Laws.Bytes.{sets-append}
 use Rattle.image.specs.Table.{table, tableBytes, recordAt}
@@ -64,21 +64,6 @@ module _ {A : Type 0} where
           let inside : i < length (table n f) = rw (length-table n f) h in
           rw (q, getD-set-same (table n f) i x d inside) e
       go k p (no q) = getD-set-other (table n f) i k x d q ∙ getD-table n f k d p ∙ o k p q
-
-  -- the loop that fills a list from the front: its start, one turn, and its end
-  pub table-none : (l : List A) (f : ℕ → A) → take 0 l ≡ table 0 f
-  unfolding table
-  table-none l f = refl
-
-  pub table-more : (l : List A) (f : ℕ → A) (i : ℕ) (x : A) → i < length l → take i l ≡ table i f → x ≡ f i →
-      take (i + 1) (set l i x) ≡ table (i + 1) f
-  unfolding table
-  table-more l f i x h e v = rw (add-one, take-suc-set, e, v)
-
-  pub table-all : (l : List A) (f : ℕ → A) (n i : ℕ) → n ≤ i → i ≤ n → length l ≡ n → take i l ≡ table i f → l ≡ table n f
-  table-all l f n i h g e t =
-      let k : i ≡ n = omega arith in
-      sym (take-all i l (omega arith)) ∙ t ∙ ap (λ (j : ℕ). table j f) k
 
   -- one element more, as the loop counts
   pub table-suc : (n : ℕ) (f : ℕ → A) → table (n + 1) f ≡ table n f ++ (f n ∷ [])

@@ -9,14 +9,14 @@ use native.Mathlib.Decide.{ℕ-discrete}
 use native.Mathlib.Nat.{not-suc-le-zero}
 use native.Mathlib.Omega.{arith}
 use lib.Dec.{eqb}
-use lib.ListN.{length, getD, set}
+use lib.ListN.{length, getD}
 use Rattle.units.specs.Payments.{fen}
 use Rattle.zone.specs.declared.Account.{Account}
 use Rattle.zone.specs.Held.{share, allMoney}
 use Rattle.zone.specs.Laws.Held.{share-same, share-other, allMoney-set, money-le}
 use Rattle.zone.specs.Valid.{nothing}
 use Rattle.rules.specs.Events.{give, take, release, freeze}
-use Rattle.rules.specs.Laws.Tables.{length-put, nth-put-same, nth-put-other, nth-index, put-index, put-nobody}
+use Rattle.rules.specs.Laws.Tables.{length-put, nth-put-same, nth-put-other, nth-index}
 use Rattle.rules.specs.Tables.{nth, put}
 use Rattle.rules.specs.View.{freeAt, frozenAt}
 
@@ -152,42 +152,3 @@ module _ (l : List Account) (a : ℕ) (p : 0 < a) where
   pub frozen-index : frozenAt l a ≡ getD l (a - 1) nothing .frozen
   unfolding frozenAt
   frozen-index = ap (λ (v : Account). v .frozen) (nth-index nothing l a p)
-
-  module _ (n : ℕ) where
-    pub give-index : give a n l
-        ≡ set l (a - 1) (record { free = fen (getD l (a - 1) nothing .free .0 + n); frozen = getD l (a - 1) nothing .frozen })
-    unfolding give
-    give-index = rw (free-index, frozen-index, put-index l a)
-
-    pub take-index : take a n l
-        ≡ set l (a - 1) (record { free = fen (getD l (a - 1) nothing .free .0 - n); frozen = getD l (a - 1) nothing .frozen })
-    unfolding take
-    take-index = rw (free-index, frozen-index, put-index l a)
-
-    pub release-index : release a n l
-        ≡ set l (a - 1) (record { free = fen (getD l (a - 1) nothing .free .0 + n); frozen = fen (getD l (a - 1) nothing .frozen .0 - n) })
-    unfolding release
-    release-index = rw (free-index, frozen-index, put-index l a)
-
-    pub freeze-index : freeze a n l
-        ≡ set l (a - 1) (record { free = fen (getD l (a - 1) nothing .free .0 - n); frozen = fen (getD l (a - 1) nothing .frozen .0 + n) })
-    unfolding freeze
-    freeze-index = rw (free-index, frozen-index, put-index l a)
-
--- nobody's money never moves
-module _ (l : List Account) (a n : ℕ) (z : a ≡ 0) where
-  pub give-nobody : give a n l ≡ l
-  unfolding give
-  give-nobody = rw z (put-nobody l _)
-
-  pub take-nobody : take a n l ≡ l
-  unfolding take
-  take-nobody = rw z (put-nobody l _)
-
-  pub release-nobody : release a n l ≡ l
-  unfolding release
-  release-nobody = rw z (put-nobody l _)
-
-  pub freeze-nobody : freeze a n l ≡ l
-  unfolding freeze
-  freeze-nobody = rw z (put-nobody l _)

@@ -48,9 +48,9 @@ module _ {A : Type 0} where
   put-index l (suc k) v p = ap (λ (i : ℕ). set l i v) (omega arith)
 
   -- nobody's entry is never changed
-  pub put-nobody : (l : List A) (v : A) → put l 0 v ≡ l
+  pub put-none : (l : List A) (a : ℕ) (v : A) → a ≡ 0 → put l a v ≡ l
   unfolding put
-  put-nobody l v = refl
+  put-none l a v e = ap (λ (k : ℕ). put l k v) e
 
   -- ── A test that every entry passes ───────────────────────────────────────────────────────────
 
