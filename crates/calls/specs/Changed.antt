@@ -7,7 +7,8 @@ use Rattle.zone.specs.declared.Account.{Account}
 use Rattle.rules.specs.Tables.{put}
 use Rattle.rules.specs.View.{freeAt, frozenAt}
 
--- free money of account a raised by `up` and lowered by `down`, frozen money raised by `more` and lowered by `less`
+-- free money of account a raised by `credit` and lowered by `debit`, frozen money raised by `held` and lowered by `freed`.
+-- A difference never stops at 0: the code asks of its callers that the money is there (`Affords`).
 unfoldable pub changed : ℕ → ℕ → ℕ → ℕ → ℕ → List Account → List Account
-changed a up down more less l =
-    put l a (record { free = fen (freeAt l a .0 + up - down); frozen = fen (frozenAt l a .0 + more - less) })
+changed a credit debit held freed l =
+    put l a (record { free = fen (freeAt l a .0 + credit - debit); frozen = fen (frozenAt l a .0 + held - freed) })

@@ -15,17 +15,17 @@ use zone::Account;
 use zone::Hold;
 
 // Free and frozen money, each raised and then lowered.
-fn change(image: &mut [u8], a: u8, up: u64, down: u64, more: u64, less: u64)
-    requires { ⌜ (now image ≡ encode (decode (now image))) × Affords (decode (now image) .accounts) a up down more less ⌝ }
-    ensures { λ _. ⌜ now (image .exit) ≡ encode (withAccounts (decode (now (image .entry))) (changed a up down more less (decode (now (image .entry)) .accounts))) ⌝ }
+fn change(image: &mut [u8], a: u8, credit: u64, debit: u64, held: u64, freed: u64)
+    requires { ⌜ (now image ≡ encode (decode (now image))) × Affords (decode (now image) .accounts) a credit debit held freed ⌝ }
+    ensures { λ _. ⌜ now (image .exit) ≡ encode (withAccounts (decode (now (image .entry))) (changed a credit debit held freed (decode (now (image .entry)) .accounts))) ⌝ }
 {
     if a == 0 {
         return;
     }
     let k = (a - 1) as usize;
     let v = image::account_at(image, k);
-    let free = v.free.0 + up - down;
-    let frozen = v.frozen.0 + more - less;
+    let free = v.free.0 + credit - debit;
+    let frozen = v.frozen.0 + held - freed;
     let w = Account {
         free: Fen(free),
         frozen: Fen(frozen),

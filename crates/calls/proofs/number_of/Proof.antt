@@ -24,7 +24,7 @@ step-at-requires c κs =
     let z = decode (now (c .before .before .before .args .image)) in
     let G : Good z = good-of z (sized-decode _) (valid-decode _ (c .before .before .before .pre)) in
     rw (c .view-of .ensures, c .before .receipt-of .ensures)
-    (ready-at z G (c .before .before .before .args .c) (c .before .before .before .args .c .receipt), free-in z G (c .before .before .before .args .c .account), G .limit)
+    (ready-at z G (c .before .before .before .args .c) _, free-in z G _, G .limit)
 
 step-number-requires : tie.Need-step-number-requires
 step-number-requires c κs = search needs

@@ -18,12 +18,12 @@ use Rattle.rules.specs.View.{freeAt, frozenAt}
 use Rattle.calls.specs.Changed.{changed}
 
 -- What the code asks of its callers: an account of the table, or nobody, that has what is lowered, and sums that fit.
-pub record Affords (l : List Account) (a up down more less : ℕ) : Type 0 where
+pub record Affords (l : List Account) (a credit debit held freed : ℕ) : Type 0 where
   pub place : a ≤ 96
-  pub up-in : 0 < a → up ≤ 10 ^ 15
-  pub more-in : 0 < a → more ≤ 10 ^ 15
-  pub free : 0 < a → down ≤ freeAt l a .0 + up
-  pub frozen : 0 < a → less ≤ frozenAt l a .0 + more
+  pub credit-in : 0 < a → credit ≤ 10 ^ 15
+  pub held-in : 0 < a → held ≤ 10 ^ 15
+  pub free : 0 < a → debit ≤ freeAt l a .0 + credit
+  pub frozen : 0 < a → freed ≤ frozenAt l a .0 + held
   pub all : allMoney l ≤ 10 ^ 15
 
 -- an account at its place in the table, in numbers
@@ -40,17 +40,17 @@ at-index l a p =
       sum = at-most l a;
     }
 
-pub changed-nobody : (l : List Account) (a up down more less : ℕ) → a ≡ 0 → changed a up down more less l ≡ l
+pub changed-nobody : (l : List Account) (a credit debit held freed : ℕ) → a ≡ 0 → changed a credit debit held freed l ≡ l
 unfolding changed
-changed-nobody l a up down more less z = put-none l a _ z
+changed-nobody l a credit debit held freed z = put-none l a _ z
 
-pub changed-index : (l : List Account) (a up down more less : ℕ) → 0 < a → changed a up down more less l
+pub changed-index : (l : List Account) (a credit debit held freed : ℕ) → 0 < a → changed a credit debit held freed l
     ≡ set l (a - 1) (record {
-      free = fen (getD l (a - 1) nothing .free .0 + up - down);
-      frozen = fen (getD l (a - 1) nothing .frozen .0 + more - less);
+      free = fen (getD l (a - 1) nothing .free .0 + credit - debit);
+      frozen = fen (getD l (a - 1) nothing .frozen .0 + held - freed);
     })
 unfolding changed
-changed-index l a up down more less p = rw (free-index l a p, frozen-index l a p, put-index l a)
+changed-index l a credit debit held freed p = rw (free-index l a p, frozen-index l a p, put-index l a)
 
 -- ── The four moves ─────────────────────────────────────────────────────────────────────────────
 

@@ -5,8 +5,7 @@ use mathlib.Core.List.{List}
 use mathlib.Core.Path.{_≡_, refl, sym, ap, _∙_}
 use Prim.Native.Nat.{ℕ, _-_, _^_, _≤_, _<_}
 use native.Mathlib.Omega.{arith}
-use lib.ListN.{length, replicate}
-use Rattle.units.specs.declared.YuanPerTonne.{YuanPerTonne}
+use lib.ListN.{length}
 use Rattle.zone.specs.declared.Account.{Account}
 use Rattle.zone.specs.declared.Receipt.{Receipt}
 use Rattle.zone.specs.declared.Zone.{Zone}
@@ -18,6 +17,7 @@ use Rattle.zone.specs.Valid.{noReceipt, all, askOk, recordValid}
 use Rattle.image.specs.Image.{decode, encode}
 use Rattle.image.specs.Layout.{recordIn}
 use Rattle.image.specs.Table.{recordAt}
+use Rattle.image.specs.Laws.Places.{noAsks}
 use Rattle.image.specs.Laws.RoundTrip.{Fits, decode-fits, record-here, decode-accounts, decode-receipts, decode-asks}
 use Rattle.rules.specs.Events.{give, take, release, freeze}
 use Rattle.rules.specs.Laws.Funded.{Funds, all-released, all-taken, all-given, all-frozen}
@@ -132,9 +132,6 @@ changed {s} {s′} {n} {r} F v e =
     record { is = e; zone = ap decode e ∙ back z S T; fits = T }
 
 -- ── A day close clears the asks ────────────────────────────────────────────────────────────────
-
-abbrev pub noAsks : List YuanPerTonne
-noAsks = replicate 8 (record { 0 = 0 })
 
 pub cleared : (s s′ : List ℕ) → Fits (decode s) → s′ ≡ encode (withAsks (decode s) noAsks) → decode s′ ≡ withAsks (decode s) noAsks
 unfolding all askOk

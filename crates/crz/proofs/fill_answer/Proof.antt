@@ -1,22 +1,20 @@
 -- Zeros, the header over them, and the entries behind it.
 use mathlib.Core.Bool.{Bool}
-use mathlib.Core.List.{List, map}
+use mathlib.Core.List.{List}
 use mathlib.Core.Path.{_≡_, sym, ap, _∙_}
 use Prim.Native.Nat.{ℕ}
 use denote.Ref.{now}
-use lib.ListN.{length, take, replicate, length-map}
+use lib.ListN.{length, take, replicate}
 use lib.Seq.{sets, length-take-le}
 use Rattle.units.specs.declared.Fen.{Fen}
 use Rattle.image.specs.Image.{decode}
+use Rattle.image.specs.Laws.Table.{length-of-map}
 use Rattle.image.specs.Table.{tableBytes}
 use Rattle.crz.specs.Buffers.{entryBytes, headerOf}
 use Rattle.crz.specs.Laws.Answer.{answer-filled}
 use borrow.Author.Needs.{needs}
 use Rattle.crz.proofs.fill_answer.Statement.{statement}
 use Rattle.crz.proofs.fill_answer.Tie as tie
-
-length-of-map : (X Y : Type 0) (f : X → Y) (l : List X) (n : ℕ) → length (map f l) ≡ n → length l ≡ n
-length-of-map X Y f l n e = sym (length-map l f) ∙ e
 
 entries-long : (c : tie.Start) → length (c .args .es .all) ≡ 128
 entries-long c = search (needs, length-of-map)

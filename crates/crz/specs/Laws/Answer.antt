@@ -3,16 +3,17 @@
 use mathlib.Core.Bool.{Bool}
 use mathlib.Core.List.{List, _++_, append-assoc}
 use mathlib.Core.Path.{_≡_, refl, sym, ap, _∙_}
-use Prim.Native.Nat.{ℕ, zero, suc, _+_, _-_, _≤_}
-use native.Mathlib.Nat.{sub-zero, zero-add, le-of-suc-le-suc, not-suc-le-zero}
+use Prim.Native.Nat.{ℕ, zero, suc, _-_, _≤_}
+use native.Mathlib.Nat.{sub-zero, le-of-suc-le-suc, not-suc-le-zero}
 use native.Mathlib.Omega.{arith}
 use lib.ListN.{length, drop, replicate, length-replicate, length-append}
-use lib.Seq.{sets, sets-eq, drop-append-le}
+use lib.Seq.{sets, drop-append-le}
 use Rattle.wire.specs.LittleEndian.{leBytes}
 use Rattle.wire.specs.Laws.Bytes.{sets-append}
 use Rattle.zone.specs.declared.Zone.{Zone}
 use Rattle.rules.specs.declared.Entry.{Entry}
 use Rattle.image.specs.Table.{tableBytes}
+use Rattle.image.specs.Laws.Places.{put-front}
 use Rattle.image.specs.Laws.Table.{length-tableBytes}
 use Rattle.crz.specs.Buffers.{entryBytes, headerOf, acceptedBytes, acceptedAnswer, filled}
 
@@ -22,10 +23,6 @@ drop-replicate (suc n) zero x h = absurd (not-suc-le-zero h)
 drop-replicate (suc n) (suc m) x h =
     let e : m - n ≡ suc m - suc n = omega arith in
     drop-replicate n m x (le-of-suc-le-suc h) ∙ rw e
-
--- a run put in front of a list
-pub put-front : (s p : List ℕ) → length p ≤ length s → sets s 0 p ≡ p ++ drop (length p) s
-put-front s p h = let k : 0 + length p ≤ length s = omega arith in sets-eq p s 0 k ∙ rw zero-add
 
 -- a run put over 1,040 zeros
 pub run-over-zeros : (old bytes : List ℕ) → 1040 ≤ length old → length bytes ≤ 1040 →

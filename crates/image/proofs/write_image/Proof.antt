@@ -1,22 +1,19 @@
 -- `write_image` meets its contract: four runs that cover the image (proofs/Whole.antt).
-use mathlib.Core.List.{List, map}
-use mathlib.Core.Path.{_≡_, sym, ap, _∙_}
+use mathlib.Core.List.{List}
+use mathlib.Core.Path.{_≡_, ap, _∙_}
 use Prim.Native.Nat.{ℕ, _*_}
 use borrow.Author.Needs.{needs}
 use denote.Ref.{now}
-use lib.ListN.{length, length-map}
+use lib.ListN.{length}
 use lib.Seq.{sets}
 use Rattle.image.specs.Table.{tableBytes}
 use Rattle.image.specs.Layout.{headerBytes, accountBytes, askBytes, receiptBytes}
 use Rattle.image.specs.Image.{encode}
-use Rattle.image.specs.Laws.Table.{length-tableBytes}
+use Rattle.image.specs.Laws.Table.{length-tableBytes, length-of-map}
 use Rattle.image.specs.Laws.Layout.{header-wide, account-wide, ask-wide, receipt-wide}
 use Rattle.image.proofs.Whole.{put-four}
 use Rattle.image.proofs.write_image.Statement.{statement}
 use Rattle.image.proofs.write_image.Tie as tie
-
-length-of-map : (X Y : Type 0) (f : X → Y) (l : List X) (n : ℕ) → length (map f l) ≡ n → length l ≡ n
-length-of-map X Y f l n e = sym (length-map l f) ∙ e
 
 -- the lengths of the zone's arrays, at the function's entry
 accounts-long : (c : tie.Start) → length (c .args .z .accounts) ≡ 96

@@ -6,7 +6,7 @@ use mathlib.Core.Path.{_≡_, refl, sym, ap, _∙_}
 use Prim.Native.Nat.{ℕ, zero, suc, _+_, _*_, _≤_, _<_}
 use native.Mathlib.Nat.{suc-mul, zero-mul, add-comm, zero-add}
 use native.Mathlib.Omega.{arith}
-use lib.ListN.{length, set, replicate, length-append, length-set}
+use lib.ListN.{length, set, drop, replicate, length-append, length-set}
 use lib.Seq.{sets, sets-eq, drop-at}
 use Rattle.units.specs.declared.YuanPerTonne.{YuanPerTonne}
 use Rattle.wire.specs.LittleEndian.{leBytes}
@@ -19,7 +19,7 @@ use Rattle.image.specs.Layout.{headerBytes, accountBytes, askBytes, rece
 use Rattle.image.specs.Image.{encode}
 use Rattle.image.specs.Laws.Table.{length-tableBytes}
 use Rattle.image.specs.Laws.Layout.{account-wide, ask-wide, receipt-wide}
-use Rattle.image.specs.Laws.RoundTrip.{header-first, accounts-first, header-long, accounts-long, asks-long}
+use Rattle.image.specs.Laws.RoundTrip.{headerPart, accountsPart, asksPart, receiptsPart, header-first, accounts-first, header-long, accounts-long, asks-long}
 
 -- ── A run in the middle of a list ──────────────────────────────────────────────────────────────
 
@@ -36,11 +36,15 @@ sets-behind p s i (x ∷ b) =
         let e : length (y ∷ p) + i ≡ suc (length p + i) = omega arith in
         rw e (ap (λ (t : List ℕ). y ∷ t) (set-behind p s i x))
 
--- at the front it takes the place of as many
+-- at the front it stands before the rest
+pub put-front : (s p : List ℕ) → length p ≤ length s → sets s 0 p ≡ p ++ drop (length p) s
+put-front s p h = let k : 0 + length p ≤ length s = omega arith in sets-eq p s 0 k ∙ rw zero-add
+
+-- and takes the place of as many
 sets-front : (m q b : List ℕ) → length b ≡ length m → sets (m ++ q) 0 b ≡ b ++ q
 sets-front m q b e =
-    let h : 0 + length b ≤ length (m ++ q) = rw (length-append, e) (omega arith) in
-    sets-eq b (m ++ q) 0 h ∙ rw (zero-add, drop-at m q (length b) (sym e))
+    let h : length b ≤ length (m ++ q) = rw (length-append, e) (omega arith) in
+    put-front (m ++ q) b h ∙ rw (drop-at m q (length b) (sym e))
 
 -- in the middle it takes the place of as many
 sets-middle : (p m q b : List ℕ) (at : ℕ) → length p ≡ at → length b ≡ length m → sets (p ++ m ++ q) at b ≡ p ++ b ++ q
@@ -82,7 +86,7 @@ module _ {A : Type 0} (f : A → List ℕ) (size : ℕ) (wide : (x : A) → leng
       ∙ sym (append-assoc p (tableBytes f (set l i x)) q)
 
 -- eight asks of 0
-abbrev noAsks : List YuanPerTonne
+abbrev pub noAsks : List YuanPerTonne
 noAsks = replicate 8 (record { 0 = 0 })
 
 no-asks : replicate 32 0 ≡ tableBytes askBytes noAsks
@@ -92,45 +96,33 @@ no-asks = refl
 -- ── A zone's bytes ─────────────────────────────────────────────────────────────────────────────
 
 module _ (z : Zone) (na : length (z .accounts) ≡ 96) (nr : length (z .receipts) ≡ 128) (nk : length (z .asks) ≡ 8) where
-  abbrev header : List ℕ
-  header = headerBytes (z .day) (z .afternoon) (z .total .0)
-
-  abbrev accounts : List ℕ
-  accounts = tableBytes accountBytes (z .accounts)
-
-  abbrev asks : List ℕ
-  asks = tableBytes askBytes (z .asks)
-
-  abbrev receipts : List ℕ
-  receipts = tableBytes receiptBytes (z .receipts)
-
   pub account-put : (k : ℕ) (a : Account) → k < 96 →
       sets (encode z) (32 + k * 16) (accountBytes a) ≡ encode (withAccounts z (set (z .accounts) k a))
   account-put k a h =
       let l = set (z .accounts) k a in
       ap (λ (s : List ℕ). sets s (32 + k * 16) (accountBytes a)) (accounts-first z na nr nk)
-      ∙ table-put accountBytes 16 account-wide header (asks ++ receipts) (z .accounts) 32 k a (header-long z na nr nk) (omega arith)
+      ∙ table-put accountBytes 16 account-wide (headerPart z) ((asksPart z) ++ (receiptsPart z)) (z .accounts) 32 k a (header-long z na nr nk) (omega arith)
       ∙ sym (accounts-first (withAccounts z l) (length-set (z .accounts) k a ∙ na) nr nk)
 
   pub ask-put : (k : ℕ) (a : YuanPerTonne) → k < 8 →
       sets (encode z) (1568 + k * 4) (askBytes a) ≡ encode (withAsks z (set (z .asks) k a))
   unfolding encode
-  ask-put k a h = table-put askBytes 4 ask-wide (header ++ accounts) receipts (z .asks) 1568 k a (accounts-long z na nr nk) (omega arith)
+  ask-put k a h = table-put askBytes 4 ask-wide ((headerPart z) ++ (accountsPart z)) (receiptsPart z) (z .asks) 1568 k a (accounts-long z na nr nk) (omega arith)
 
   pub receipt-put : (k : ℕ) (r : Receipt) → k < 128 →
       sets (encode z) (1600 + k * 32) (receiptBytes r) ≡ encode (withReceipts z (set (z .receipts) k r))
   unfolding encode
   receipt-put k r h =
-      ap (λ (s : List ℕ). sets s (1600 + k * 32) (receiptBytes r)) (sym (append-nil (header ++ accounts ++ asks ++ receipts)))
-      ∙ table-put receiptBytes 32 receipt-wide (header ++ accounts ++ asks) [] (z .receipts) 1600 k r (asks-long z na nr nk) (omega arith)
-      ∙ append-nil (header ++ accounts ++ asks ++ tableBytes receiptBytes (set (z .receipts) k r))
+      ap (λ (s : List ℕ). sets s (1600 + k * 32) (receiptBytes r)) (sym (append-nil ((headerPart z) ++ (accountsPart z) ++ (asksPart z) ++ (receiptsPart z))))
+      ∙ table-put receiptBytes 32 receipt-wide ((headerPart z) ++ (accountsPart z) ++ (asksPart z)) [] (z .receipts) 1600 k r (asks-long z na nr nk) (omega arith)
+      ∙ append-nil ((headerPart z) ++ (accountsPart z) ++ (asksPart z) ++ tableBytes receiptBytes (set (z .receipts) k r))
 
   pub asks-cleared : sets (encode z) 1568 (replicate 32 0) ≡ encode (withAsks z noAsks)
   unfolding encode
   asks-cleared =
-      let n : length asks ≡ 32 = length-tableBytes askBytes 4 ask-wide (z .asks) ∙ ap (λ (k : ℕ). k * 4) nk in
-      sets-middle (header ++ accounts) asks receipts (replicate 32 0) 1568 (accounts-long z na nr nk) (sym n)
-      ∙ ap (λ (t : List ℕ). header ++ accounts ++ t ++ receipts) no-asks
+      let n : length (asksPart z) ≡ 32 = length-tableBytes askBytes 4 ask-wide (z .asks) ∙ ap (λ (k : ℕ). k * 4) nk in
+      sets-middle ((headerPart z) ++ (accountsPart z)) (asksPart z) (receiptsPart z) (replicate 32 0) 1568 (accounts-long z na nr nk) (sym n)
+      ∙ ap (λ (t : List ℕ). (headerPart z) ++ (accountsPart z) ++ t ++ (receiptsPart z)) no-asks
 
   pub total-put : (t : ℕ) → sets (encode z) 24 (leBytes 8 t) ≡ encode (withTotal z (record { 0 = t }))
   unfolding headerBytes leBytes

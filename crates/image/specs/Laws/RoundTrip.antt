@@ -50,27 +50,27 @@ valid-fits z valid =
     let F = zone-in z valid in
     record { day = F .day-in .high; asks = F .asks-ok; records = F .records; money = omega (arith, F .total-is, F .total-in); total = F .total-in }
 
+-- the four parts of the image
+abbrev pub headerPart : Zone → List ℕ
+headerPart z = headerBytes (z .day) (z .afternoon) (z .total .0)
+
+abbrev pub accountsPart : Zone → List ℕ
+accountsPart z = tableBytes accountBytes (z .accounts)
+
+abbrev pub asksPart : Zone → List ℕ
+asksPart z = tableBytes askBytes (z .asks)
+
+abbrev pub receiptsPart : Zone → List ℕ
+receiptsPart z = tableBytes receiptBytes (z .receipts)
+
 module _ (z : Zone) (na : length (z .accounts) ≡ 96) (nr : length (z .receipts) ≡ 128) (nk : length (z .asks) ≡ 8) where
-  -- the four parts of the image
-  abbrev header : List ℕ
-  header = headerBytes (z .day) (z .afternoon) (z .total .0)
-
-  abbrev accounts : List ℕ
-  accounts = tableBytes accountBytes (z .accounts)
-
-  abbrev asks : List ℕ
-  asks = tableBytes askBytes (z .asks)
-
-  abbrev receipts : List ℕ
-  receipts = tableBytes receiptBytes (z .receipts)
-
-  pub header-long : length header ≡ 32
+  pub header-long : length (headerPart z) ≡ 32
   header-long = header-wide (z .day) (z .afternoon) (z .total .0)
 
-  pub accounts-long : length (header ++ accounts) ≡ 1568
+  pub accounts-long : length ((headerPart z) ++ (accountsPart z)) ≡ 1568
   accounts-long = rw (length-append, header-long, length-tableBytes accountBytes 16 account-wide (z .accounts), na)
 
-  pub asks-long : length (header ++ accounts ++ asks) ≡ 1600
+  pub asks-long : length ((headerPart z) ++ (accountsPart z) ++ (asksPart z)) ≡ 1600
   asks-long = rw (length-append, accounts-long, length-tableBytes askBytes 4 ask-wide (z .asks), nk)
 
   pub length-encode : length (encode z) ≡ 5696
@@ -78,27 +78,27 @@ module _ (z : Zone) (na : length (z .accounts) ≡ 96) (nr : length (z .receipts
   length-encode = rw (length-append, asks-long, length-tableBytes receiptBytes 32 receipt-wide (z .receipts), nr)
 
   -- the header before the rest, and the accounts before the asks
-  pub header-first : encode z ≡ header ++ (accounts ++ (asks ++ receipts))
+  pub header-first : encode z ≡ (headerPart z) ++ ((accountsPart z) ++ ((asksPart z) ++ (receiptsPart z)))
   unfolding encode
   header-first = simp append-assoc
 
-  pub accounts-first : encode z ≡ header ++ accounts ++ (asks ++ receipts)
+  pub accounts-first : encode z ≡ (headerPart z) ++ (accountsPart z) ++ ((asksPart z) ++ (receiptsPart z))
   unfolding encode
-  accounts-first = append-assoc (header ++ accounts) asks receipts
+  accounts-first = append-assoc ((headerPart z) ++ (accountsPart z)) (asksPart z) (receiptsPart z)
 
   -- record k of each table
   account-at : (k : ℕ) → k < 96 → recordAt 32 16 (encode z) k ≡ accountBytes (getD (z .accounts) k nothing)
   account-at k h =
-      rw accounts-first (record-back accountBytes 16 account-wide nothing header (asks ++ receipts) (z .accounts) 32 k header-long (omega arith))
+      rw accounts-first (record-back accountBytes 16 account-wide nothing (headerPart z) ((asksPart z) ++ (receiptsPart z)) (z .accounts) 32 k header-long (omega arith))
 
   ask-at : (k : ℕ) → k < 8 → recordAt 1568 4 (encode z) k ≡ askBytes (getD (z .asks) k none)
   unfolding encode
-  ask-at k h = record-back askBytes 4 ask-wide none (header ++ accounts) receipts (z .asks) 1568 k accounts-long (omega arith)
+  ask-at k h = record-back askBytes 4 ask-wide none ((headerPart z) ++ (accountsPart z)) (receiptsPart z) (z .asks) 1568 k accounts-long (omega arith)
 
   receipt-at : (k : ℕ) → k < 128 → recordAt 1600 32 (encode z) k ≡ recordBytes (recordOf (getD (z .receipts) k noReceipt))
   unfolding encode receiptBytes
   receipt-at k h =
-      let e = record-back receiptBytes 32 receipt-wide noReceipt (header ++ accounts ++ asks) [] (z .receipts) 1600 k asks-long (omega arith) in
+      let e = record-back receiptBytes 32 receipt-wide noReceipt ((headerPart z) ++ (accountsPart z) ++ (asksPart z)) [] (z .receipts) 1600 k asks-long (omega arith) in
       rw append-nil at e
 
   module _ (F : Fits z) where
@@ -147,15 +147,15 @@ module _ (z : Zone) (na : length (z .accounts) ≡ 96) (nr : length (z .receipts
     day-back : dayIn (encode z) ≡ z .day
     day-back =
         ap dayIn header-first
-        ∙ day-read (z .day) (z .afternoon) (z .total .0) (accounts ++ (asks ++ receipts)) (omega (arith, F .day))
+        ∙ day-read (z .day) (z .afternoon) (z .total .0) ((accountsPart z) ++ ((asksPart z) ++ (receiptsPart z))) (omega (arith, F .day))
 
     total-back : totalIn (encode z) ≡ z .total .0
     total-back =
         ap totalIn header-first
-        ∙ total-read (z .day) (z .afternoon) (z .total .0) (accounts ++ (asks ++ receipts)) (omega (arith, F .total))
+        ∙ total-read (z .day) (z .afternoon) (z .total .0) ((accountsPart z) ++ ((asksPart z) ++ (receiptsPart z))) (omega (arith, F .total))
 
     afternoon-back : afternoonIn (encode z) ≡ z .afternoon
-    afternoon-back = ap afternoonIn header-first ∙ afternoon-read (z .day) (z .afternoon) (z .total .0) (accounts ++ (asks ++ receipts))
+    afternoon-back = ap afternoonIn header-first ∙ afternoon-read (z .day) (z .afternoon) (z .total .0) ((accountsPart z) ++ ((asksPart z) ++ (receiptsPart z)))
 
     pub decode-fits : decode (encode z) ≡ z
     unfolding decode
@@ -183,16 +183,16 @@ module _ (z : Zone) (na : length (z .accounts) ≡ 96) (nr : length (z .receipts
     valid-encode =
         join
         (join (eq-eqb _ _ length-encode)
-        (ap headerOk header-first ∙ header-ok (z .day) (z .afternoon) (z .total .0) (accounts ++ (asks ++ receipts))))
+        (ap headerOk header-first ∙ header-ok (z .day) (z .afternoon) (z .total .0) ((accountsPart z) ++ ((asksPart z) ++ (receiptsPart z)))))
         (rw (day-back fits, asks-back fits, accounts-back fits, records-back fits, total-back fits, ← booksOk-map recordOf) valid)
 
     -- and they are bytes
     pub bytes-encode : Bytes (encode z)
     unfolding encode receiptBytes
     bytes-encode =
-        bytes-append (header ++ accounts ++ asks) receipts
-        (bytes-append (header ++ accounts) asks
-        (bytes-append header accounts (header-bytes (z .day) (z .afternoon) (z .total .0)) (bytes-table accountBytes (z .accounts) nothing (λ k h. account-bytes (getD (z .accounts) k nothing))))
+        bytes-append ((headerPart z) ++ (accountsPart z) ++ (asksPart z)) (receiptsPart z)
+        (bytes-append ((headerPart z) ++ (accountsPart z)) (asksPart z)
+        (bytes-append (headerPart z) (accountsPart z) (header-bytes (z .day) (z .afternoon) (z .total .0)) (bytes-table accountBytes (z .accounts) nothing (λ k h. account-bytes (getD (z .accounts) k nothing))))
         (bytes-table askBytes (z .asks) none (λ k h. ask-bytes (getD (z .asks) k none))))
         (bytes-table receiptBytes (z .receipts) noReceipt (λ k h. record-bytes (recordOf (getD (z .receipts) k noReceipt)) (record-valid fits k (omega arith))))
 

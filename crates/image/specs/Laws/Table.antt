@@ -11,7 +11,7 @@ use native.Mathlib.Decide.{ℕ-discrete}
 use native.Mathlib.Omega.{arith}
 use borrow.Author.Tests.{eqb-true, eqb-false}
 use lib.Dec.{eqb}
-use lib.ListN.{length, take, drop, getD, set, length-append, length-drop, length-set, List·getD-append}
+use lib.ListN.{length, take, drop, getD, set, length-append, length-drop, length-set, length-map, List·getD-append}
 use lib.Seq.{sets, take-suc, take-at, take-add, take-append-le, drop-drop, drop-append-add, drop-append-le, length-take-le, getD-at, getD-take, getD-drop, getD-set-same, getD-set-other, ext-getD}
 use Rattle.wire.specs.LittleEndian.{leAt}
 use Rattle.wire.specs.Laws.Bytes.{sets-append}
@@ -78,6 +78,10 @@ pub map-table : {A B : Type 0} (f : A → B) (n : ℕ) (g : ℕ → A) → map f
 unfolding table
 map-table f zero g = refl
 map-table f (suc n) g = map-snoc f (table n g) (g n) ∙ ap (λ (t : List _). t ++ (f (g n) ∷ [])) (map-table f n g)
+
+-- the length of a list by that of its image under a map, as a struct's array comes
+pub length-of-map : (X Y : Type 0) (f : X → Y) (l : List X) (n : ℕ) → length (map f l) ≡ n → length l ≡ n
+length-of-map X Y f l n e = sym (length-map l f) ∙ e
 
 -- ── A part of a list ───────────────────────────────────────────────────────────────────────────
 

@@ -33,7 +33,7 @@ returns c =
     let a = c .before .before .args in
     c .before .before .pre .0
     ∙ ap (λ (l : List Account). encode (withAccounts (decode s) l))
-    (sym (changed-nobody (decode s .accounts) (a .a) (a .up) (a .down) (a .more) (a .less) (c .if1 .taken)))
+    (sym (changed-nobody (decode s .accounts) (a .a) (a .credit) (a .debit) (a .held) (a .freed) (c .if1 .taken)))
 
 sub-k : tie.Need-sub-k
 sub-k c = search needs
@@ -45,13 +45,13 @@ account-at-requires : tie.Need-account-at-requires
 account-at-requires c κs = (same-long _ (c .before .before .before .pre .0), omega (arith, c .before .before .before .pre .1 .place))
 
 add-free : tie.Need-add-free
-add-free c = let p : 0 < c .before .before .before .before .before .args .a = omega arith in omega (arith, free-here (c .before), c .before .before .before .before .before .pre .1 .up-in p, at-index (decode (now (c .before .before .before .before .before .args .image)) .accounts) (c .before .before .before .before .before .args .a) p, c .before .before .before .before .before .pre .1 .all)
+add-free c = let p : 0 < c .before .before .before .before .before .args .a = omega arith in omega (arith, free-here (c .before), c .before .before .before .before .before .pre .1 .credit-in p, at-index (decode (now (c .before .before .before .before .before .args .image)) .accounts) (c .before .before .before .before .before .args .a) p, c .before .before .before .before .before .pre .1 .all)
 
 sub-free : tie.Need-sub-free
 sub-free c = let p : 0 < c .before .before .before .before .before .args .a = omega arith in omega (arith, free-here (c .before), c .before .before .before .before .before .pre .1 .free p)
 
 add-frozen : tie.Need-add-frozen
-add-frozen c = let p : 0 < c .before .before .before .before .before .before .args .a = omega arith in omega (arith, frozen-here (c .before .before), c .before .before .before .before .before .before .pre .1 .more-in p, at-index (decode (now (c .before .before .before .before .before .before .args .image)) .accounts) (c .before .before .before .before .before .before .args .a) p, c .before .before .before .before .before .before .pre .1 .all)
+add-frozen c = let p : 0 < c .before .before .before .before .before .before .args .a = omega arith in omega (arith, frozen-here (c .before .before), c .before .before .before .before .before .before .pre .1 .held-in p, at-index (decode (now (c .before .before .before .before .before .before .args .image)) .accounts) (c .before .before .before .before .before .before .args .a) p, c .before .before .before .before .before .before .pre .1 .all)
 
 sub-frozen : tie.Need-sub-frozen
 sub-frozen c = let p : 0 < c .before .before .before .before .before .before .args .a = omega arith in omega (arith, frozen-here (c .before .before), c .before .before .before .before .before .before .pre .1 .frozen p)
@@ -70,9 +70,9 @@ returns-2 c =
     c .before .before .set-account .ensures
     ∙ ap
     (λ (v : Account).
-    encode (withAccounts z (set (z .accounts) (a .a - 1) (record { free = fen (v .free .0 + a .up - a .down); frozen = fen (v .frozen .0 + a .more - a .less) }))))
+    encode (withAccounts z (set (z .accounts) (a .a - 1) (record { free = fen (v .free .0 + a .credit - a .debit); frozen = fen (v .frozen .0 + a .held - a .freed) }))))
     (here (c .before .before .before .before .before .before))
-    ∙ ap (λ (l : List Account). encode (withAccounts z l)) (sym (changed-index (z .accounts) (a .a) (a .up) (a .down) (a .more) (a .less) (omega arith)))
+    ∙ ap (λ (l : List Account). encode (withAccounts z l)) (sym (changed-index (z .accounts) (a .a) (a .credit) (a .debit) (a .held) (a .freed) (omega arith)))
 
 pub change-spec : {M : Type 1} → statement M
 change-spec =

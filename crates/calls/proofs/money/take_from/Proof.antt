@@ -12,7 +12,7 @@ use Rattle.calls.proofs.money.take_from.Statement.{statement}
 use Rattle.calls.proofs.money.take_from.Tie as tie
 
 change-requires : tie.Need-change-requires
-change-requires c κs = (c .before .before .pre .0, record { place = c .before .before .pre .1; up-in = λ p. omega arith; more-in = λ p. omega arith; free = λ p. omega (arith, c .before .before .pre .2 p); frozen = λ p. omega arith; all = c .before .before .pre .3 })
+change-requires c κs = (c .before .before .pre .0, record { place = c .before .before .pre .1; credit-in = λ p. omega arith; held-in = λ p. omega arith; free = λ p. omega (arith, c .before .before .pre .2 p); frozen = λ p. omega arith; all = c .before .before .pre .3 })
 
 same-length : tie.Need-same-length
 same-length c = search needs
