@@ -1,4 +1,4 @@
--- The money examples of document 01's "Bench examples": (1), (2), (3) and (6), as one fact, by computing.
+-- The money of 01's bench examples 1, 2, 3 and 6, as one fact, by computing.
 -- Assumes nothing.
 use mathlib.Core.Path.{_≡_, refl}
 use Prim.Native.Nat.{ℕ}
@@ -11,16 +11,16 @@ abbrev full : ℕ → ℤ → ℕ → Fen
 full price basis weight = fullPayment (record { 0 = price }) (record { 0 = basis }) (record { 0 = weight })
 
 pub record MoneyExamples : Type 0 where
-  -- "Weight 41,237, basis 300: (1) price 15,000: full 63,092,610, first 50,474,088."
+  -- 1: 41,237 kilograms at 15,000 with basis 300
   pub full-1 : full 15000 (pos 300) 41237 ≡ fen 63092610
   pub first-1 : firstPayment (full 15000 (pos 300) 41237) ≡ fen 50474088
-  -- "(2) 15,005: full 63,113,229, first 50,490,583."
+  -- 2: the same at 15,005
   pub full-2 : full 15005 (pos 300) 41237 ≡ fen 63113229
   pub first-2 : firstPayment (full 15005 (pos 300) 41237) ≡ fen 50490583
-  -- "(3) price 5, basis -4, weight 1,000: 100, 80."
+  -- 3: the smallest price that can be paid
   pub full-3 : full 5 (negsuc 3) 1000 ≡ fen 100
   pub first-3 : firstPayment (full 5 (negsuc 3) 1000) ≡ fen 80
-  -- "(6) 200,000, 50,000, 60,000 kg: 1,500,000,000."
+  -- 6: every field at its upper end
   pub full-6 : full 200000 (pos 50000) 60000 ≡ fen 1500000000
 
 pub money-examples : MoneyExamples

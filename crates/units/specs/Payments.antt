@@ -1,5 +1,5 @@
--- The money of a trade (document 01, "Money of a trade"). "Prices and basis are whole yuan per tonne, money is whole fen,
--- weight is kilograms; a price is never taken for money": each unit is a type of its own, declared in src/lib.rt.
+-- The money of a trade (01, Money of a trade). Each unit is a type of its own, declared in src/lib.rt, so that no price can stand
+-- where money is asked for.
 -- Assumes nothing.
 use mathlib.Core.Bool.{Bool, cond}
 use Prim.Native.Nat.{ℕ, _+_, _-_, _*_, _/_, min}
@@ -15,46 +15,58 @@ use Rattle.units.specs.declared.YuanPerTonne.{YuanPerTonne}
 abbrev pub fen : ℕ → Fen
 fen n = record { 0 = n }
 
+-- ── What a tonne costs ─────────────────────────────────────────────────────────────────────────
+
 -- price + basis, exact and signed
 unfoldable pub unitPrice : YuanPerTonne → Basis → ℤ
 unitPrice price basis = pos (price .0) +ℤ basis .0
 
--- "price + basis ≥ 1"
+-- a trade needs at least 1 yuan per tonne (01, The image, validity; number 10)
 unfoldable pub payable : YuanPerTonne → Basis → Bool
 payable price basis = leZ (pos 1) (unitPrice price basis)
 
--- A sum as a natural number. Below 0 it counts as 0, which no trade of a valid zone meets: there price + basis ≥ 1.
+-- A sum as a natural number. Below 0 it counts as 0; no trade of a valid zone has such a sum (`unit-at-least`, Laws/Bounds).
 abbrev pub atLeast0 : ℤ → ℕ
 atLeast0 (pos n) = n
 atLeast0 (negsuc n) = 0
 
--- "Full payment = ((price + basis) × weight + 5) div 10, where div drops the fraction" (article 13)
+-- ── The payments ───────────────────────────────────────────────────────────────────────────────
+
+-- full payment: a kilogram is a thousandth of a tonne and a yuan 100 fen, so a tenth of the product, rounded half up
 unfoldable pub fullPayment : YuanPerTonne → Basis → Kilograms → Fen
 fullPayment price basis weight = fen ((atLeast0 (unitPrice price basis) * weight .0 + 5) / 10)
 
--- "First payment = full × 80 div 100" (article 16)
+-- first payment: 80 percent, the fraction dropped
 unfoldable pub firstPayment : Fen → Fen
 firstPayment full = fen (full .0 * 80 / 100)
 
--- "Rest = full - first". First is never above full (`first-le`, Laws/Bounds.antt).
+-- the rest after it. Nothing is taken that is not there: `first-le` (Laws/Bounds).
 unfoldable pub restPayment : Fen → Fen
 restPayment full = fen (full .0 - firstPayment full .0)
 
--- "A confirmed invoice pays rest × invoice div full. The one that brings confirmed invoices up to full pays whatever of the
--- rest is unpaid" (article 17). `confirmed` and `paid` stand before this invoice; paid is never above the rest in a valid zone.
+-- What the confirmation of an invoice pays, where `confirmed` and `paid` stand before it: its share of the rest, the fraction dropped, or
+-- all that is unpaid once confirmed invoices reach full. Nothing is taken that is not there: `bound-le-rest` (Laws/Bounds) keeps paid
+-- within the rest.
 unfoldable pub partPayment : Fen → Fen → Fen → Fen → Fen
 partPayment full confirmed paid invoice =
     cond (eqb (confirmed .0 + invoice .0) (full .0))
     (fen (restPayment full .0 - paid .0))
     (fen (restPayment full .0 * invoice .0 / full .0))
 
--- "Deposit and penalty: 5,000,000 fen each per receipt" (notice and article 21)
+-- ── Deposit and penalty ────────────────────────────────────────────────────────────────────────
+
+-- fen for each receipt, the same for both
+abbrev pub perReceipt : ℕ
+perReceipt = 5000000
+
+-- frozen from the buyer while a bid stands and until a trade is closed
 abbrev pub deposit : Fen
-deposit = fen 5000000
+deposit = fen perReceipt
 
+-- owed by a seller who has not lodged
 abbrev pub penalty : Fen
-penalty = fen 5000000
+penalty = fen perReceipt
 
--- "the smaller of seller's free and the penalty passes to the buyer"
+-- what of the penalty passes: no more than the seller has free (01, Calls, kind 11)
 unfoldable pub penaltyPassed : Fen → Fen
 penaltyPassed free = fen (min (free .0) (penalty .0))

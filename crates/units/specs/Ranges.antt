@@ -1,4 +1,5 @@
--- The ranges of prices, basis, weights and amounts (document 01, "The image", "Ranges").
+-- The ranges of the numbers in calls and records (01, The image, sentence on ranges), and how many accounts, receipts and contracts a
+-- zone has.
 -- Assumes nothing.
 use mathlib.Core.Bool.{Bool, _&&_}
 use Prim.Native.Nat.{ℕ, _%_, _^_}
@@ -10,18 +11,68 @@ use lib.Signed.{leZ}
 abbrev pub within : ℕ → ℕ → ℕ → Bool
 within lo hi n = leb lo n && leb n hi
 
--- "price a multiple of 5 from 5 to 200,000"
-abbrev pub isPrice : ℕ → Bool
-isPrice n = within 5 200000 n && eqb (n % 5) 0
+-- a signed number is 0
+abbrev pub isZero : ℤ → Bool
+isZero z = leZ (pos 0) z && leZ z (pos 0)
 
--- "basis -50,000 to 50,000" (`negsuc n` is -(n + 1))
+-- ── Counts, and the numbers that count from 1 ──────────────────────────────────────────────────
+
+abbrev pub accountCount : ℕ
+accountCount = 96
+
+abbrev pub receiptCount : ℕ
+receiptCount = 128
+
+abbrev pub contractCount : ℕ
+contractCount = 8
+
+-- an account; 0 is nobody
+abbrev pub isAccount : ℕ → Bool
+isAccount n = within 1 accountCount n
+
+abbrev pub isReceipt : ℕ → Bool
+isReceipt n = within 1 receiptCount n
+
+abbrev pub isContract : ℕ → Bool
+isContract n = within 1 contractCount n
+
+-- ── Days, prices, weights, amounts ─────────────────────────────────────────────────────────────
+
+-- D, the days from strike to delivery
+abbrev pub isDays : ℕ → Bool
+isDays n = leb n 3
+
+abbrev pub mostPrice : ℕ
+mostPrice = 200000
+
+-- from 5 yuan per tonne on, in steps of 5
+abbrev pub isPrice : ℕ → Bool
+isPrice n = within 5 mostPrice n && eqb (n % 5) 0
+
+-- at most 50,000 yuan per tonne, up or down (`negsuc n` is -(n + 1))
 abbrev pub isBasis : ℤ → Bool
 isBasis b = leZ (negsuc 49999) b && leZ b (pos 50000)
 
--- "weight 1,000 to 60,000"
-abbrev pub isWeight : ℕ → Bool
-isWeight n = within 1000 60000 n
+abbrev pub mostWeight : ℕ
+mostWeight = 60000
 
--- "amount 1 to 10^12"
+-- a tonne at least
+abbrev pub isWeight : ℕ → Bool
+isWeight n = within 1000 mostWeight n
+
+-- fen that one call may name
 abbrev pub isAmount : ℕ → Bool
 isAmount n = within 1 (10 ^ 12) n
+
+-- ── Limits of the zone ─────────────────────────────────────────────────────────────────────────
+
+-- all money of a zone
+abbrev pub moneyLimit : ℕ
+moneyLimit = 10 ^ 15
+
+-- the last day of the calendar, and the last day that a lot can be due
+abbrev pub lastDay : ℕ
+lastDay = 30000
+
+abbrev pub lastDue : ℕ
+lastDue = 30003

@@ -1,7 +1,7 @@
-// The guideline's units, each a number type of its own, and the money of a trade.
+// The guideline's units, each a number type of its own, the ranges of numbers, and the money of a trade.
 ghost use mathlib.Core.Path.{_≡_};
 ghost use Prim.Native.Nat.{_+_, _-_, _≤_, _<_, _^_};
-ghost use Rattle.units.specs.Ranges.{isPrice, isBasis, isWeight, isAmount};
+ghost use Rattle.units.specs.Ranges.{isZero, isAccount, isReceipt, isContract, isDays, isPrice, mostWeight, isBasis, isWeight, isAmount};
 ghost use Rattle.units.specs.Payments.{unitPrice, atLeast0, payable, fullPayment, firstPayment, restPayment, partPayment, deposit, penalty, penaltyPassed};
 
 // A price: whole yuan per tonne.
@@ -15,6 +15,55 @@ pub struct Fen(pub u64);
 
 // Weight.
 pub struct Kilograms(pub u32);
+
+// ── Counts and limits ───────────────────────────────────────────────────────────────────────────
+
+pub const ACCOUNTS: usize = 96;
+
+pub const RECEIPTS: usize = 128;
+
+pub const CONTRACTS: usize = 8;
+
+pub const LAST_DAY: u16 = 30000;
+
+pub const LAST_DUE: u16 = 30003;
+
+// Fen: all money of a zone, and what a deposit and a penalty are for each receipt.
+pub const MONEY_LIMIT: u64 = 1000000000000000;
+
+pub const PER_RECEIPT: u64 = 5000000;
+
+// ── Ranges ──────────────────────────────────────────────────────────────────────────────────────
+
+pub fn is_zero(x: i32) -> bool
+    ensures { λ r. ⌜ r ≡ isZero x ⌝ }
+{
+    (0 <= x) & (x <= 0)
+}
+
+pub fn is_account(n: u8) -> bool
+    ensures { λ r. ⌜ r ≡ isAccount n ⌝ }
+{
+    (1 <= n) & (n <= ACCOUNTS as u8)
+}
+
+pub fn is_receipt(n: u8) -> bool
+    ensures { λ r. ⌜ r ≡ isReceipt n ⌝ }
+{
+    (1 <= n) & (n <= RECEIPTS as u8)
+}
+
+pub fn is_contract(n: u8) -> bool
+    ensures { λ r. ⌜ r ≡ isContract n ⌝ }
+{
+    (1 <= n) & (n <= CONTRACTS as u8)
+}
+
+pub fn is_days(n: u8) -> bool
+    ensures { λ r. ⌜ r ≡ isDays n ⌝ }
+{
+    n <= 3
+}
 
 // Whether a number as it came is a price, on the whole u64.
 pub fn is_price(x: u64) -> bool
@@ -40,6 +89,8 @@ pub fn is_amount(x: u64) -> bool
 {
     (1 <= x) & (x <= 1000000000000)
 }
+
+// ── The money of a trade ────────────────────────────────────────────────────────────────────────
 
 // price + basis: at 64 bits the sum never wraps.
 fn unit_price(price: YuanPerTonne, basis: Basis) -> i64
@@ -67,7 +118,7 @@ pub fn is_payable(price: YuanPerTonne, basis: Basis) -> bool
 }
 
 pub fn full_payment(price: YuanPerTonne, basis: Basis, weight: Kilograms) -> Fen
-    requires { ⌜ weight .0 ≤ 60000 ⌝ }
+    requires { ⌜ weight .0 ≤ mostWeight ⌝ }
     ensures { λ r. ⌜ r ≡ fullPayment price basis weight ⌝ }
 {
     Fen((price_to_pay(price, basis) * (weight.0 as u64) + 5) / 10)
@@ -106,12 +157,13 @@ pub fn part_payment(full: Fen, confirmed: Fen, paid: Fen, invoice: Fen) -> Fen
 pub fn deposit_per_receipt() -> Fen
     ensures { λ r. ⌜ r ≡ deposit ⌝ }
 {
-    Fen(5000000)
+    Fen(PER_RECEIPT)
 }
 
 // Of the penalty a seller owes, what its free money can pay.
 pub fn penalty_passed(free: Fen) -> Fen
     ensures { λ r. ⌜ r ≡ penaltyPassed free ⌝ }
 {
-    if free.0 < 5000000 { free } else { Fen(5000000) }
+    let owed = PER_RECEIPT;
+    if free.0 < owed { free } else { Fen(owed) }
 }

@@ -1,4 +1,4 @@
--- How a number stands in bytes: "Numbers in records are little-endian; i32 is two's complement" (document 01).
+-- How a number stands in bytes: lowest byte first, and below 0 in two's complement (01, opening, sentence 5).
 -- A byte is a number below 256, a run of bytes a list; what is put from an offset on is `sets` of `lib.Seq`.
 -- Assumes nothing.
 use mathlib.Core.Bool.{cond}
@@ -18,11 +18,12 @@ unfoldable pub leBytes : ℕ → ℕ → List ℕ
 leBytes zero v = []
 leBytes (suc w) v = v % 256 ∷ leBytes w (v / 256)
 
--- the signed number of 32 bits: from 2 ^ 31 on, v - 2 ^ 32 (`negsuc n` is -(n + 1))
+-- The signed number of 32 bits: from 2 ^ 31 on, v - 2 ^ 32 (`negsuc n` is -(n + 1)). Nothing is taken that is not there: v is below
+-- 2 ^ 32 (`leAt-lt`, Laws/Bytes).
 unfoldable pub signed32 : ℕ → ℤ
 signed32 v = cond (ltb v (2 ^ 31)) (pos v) (negsuc (2 ^ 32 - suc v))
 
--- the 32 bits of a signed number: below 0, x + 2 ^ 32
+-- The 32 bits of a signed number: below 0, x + 2 ^ 32. Nothing is taken that is not there: an i32 is at least -(2 ^ 31).
 unfoldable pub bits32 : ℤ → ℕ
 bits32 (pos n) = n
 bits32 (negsuc n) = 2 ^ 32 - suc n

@@ -14,7 +14,8 @@ use Rattle.units.specs.declared.Basis.{Basis}
 use Rattle.units.specs.declared.Fen.{Fen}
 use Rattle.units.specs.declared.Kilograms.{Kilograms}
 use Rattle.units.specs.declared.YuanPerTonne.{YuanPerTonne}
-use Rattle.units.specs.Payments.{fen, unitPrice, payable, atLeast0, fullPayment, firstPayment, restPayment, partPayment, penaltyPassed}
+use Rattle.units.specs.Ranges.{mostPrice, mostWeight}
+use Rattle.units.specs.Payments.{fen, unitPrice, payable, atLeast0, fullPayment, firstPayment, restPayment, partPayment, penaltyPassed, perReceipt}
 
 -- ── price + basis ──────────────────────────────────────────────────────────────────────────────
 
@@ -44,7 +45,7 @@ unit-at-least price basis h = go (unitPrice price basis) h
 
 -- in range, full payment is at most 1,500,000,000 fen (example 6)
 pub full-at-most : (price : YuanPerTonne) (basis : Basis) (weight : Kilograms) →
-    price .0 ≤ 200000 → leZ (basis .0) (pos 50000) ≡ true → weight .0 ≤ 60000 → fullPayment price basis weight .0 ≤ 1500000000
+    price .0 ≤ mostPrice → leZ (basis .0) (pos 50000) ≡ true → weight .0 ≤ mostWeight → fullPayment price basis weight .0 ≤ 1500000000
 unfolding fullPayment
 full-at-most price basis weight hp hb hw =
     let u : atLeast0 (unitPrice price basis) ≤ 250000 = omega (arith, unit-at-most price basis 50000 hb) in
@@ -112,6 +113,6 @@ part-le-rest full confirmed paid invoice some h hp = go (eqb (confirmed .0 + inv
 
 -- ── the penalty ────────────────────────────────────────────────────────────────────────────────
 
-pub penalty-at-most : (free : Fen) → (penaltyPassed free .0 ≤ free .0) × (penaltyPassed free .0 ≤ 5000000)
+pub penalty-at-most : (free : Fen) → (penaltyPassed free .0 ≤ free .0) × (penaltyPassed free .0 ≤ perReceipt)
 unfolding penaltyPassed
 penalty-at-most free = (omega arith, omega arith)
