@@ -1,4 +1,4 @@
--- The money of a trade (01, Money of a trade). Each unit is a type of its own, declared in src/lib.rt, so that no price can stand
+-- The money of a trade (01 Money). Each unit is a type of its own, declared in src/lib.rt, so that no price can stand
 -- where money is asked for.
 -- Assumes nothing.
 use mathlib.Core.Bool.{Bool, cond}
@@ -21,7 +21,7 @@ fen n = record { 0 = n }
 unfoldable pub unitPrice : YuanPerTonne → Basis → ℤ
 unitPrice price basis = pos (price .0) +ℤ basis .0
 
--- a trade needs at least 1 yuan per tonne (01, The image, validity; number 10)
+-- a trade needs at least 1 yuan per tonne (01 Image 15, Answers 21)
 unfoldable pub payable : YuanPerTonne → Basis → Bool
 payable price basis = leZ (pos 1) (unitPrice price basis)
 
@@ -32,19 +32,19 @@ atLeast0 (negsuc n) = 0
 
 -- ── The payments ───────────────────────────────────────────────────────────────────────────────
 
--- full payment: a kilogram is a thousandth of a tonne and a yuan 100 fen, so a tenth of the product, rounded half up
+-- full payment (01 Money 2): a kilogram is a thousandth of a tonne and a yuan 100 fen, so a tenth of the product, rounded half up
 unfoldable pub fullPayment : YuanPerTonne → Basis → Kilograms → Fen
 fullPayment price basis weight = fen ((atLeast0 (unitPrice price basis) * weight .0 + 5) / 10)
 
--- first payment: 80 percent, the fraction dropped
+-- first payment (01 Money 3): 80 percent, the fraction dropped
 unfoldable pub firstPayment : Fen → Fen
 firstPayment full = fen (full .0 * 80 / 100)
 
--- the rest after it. Nothing is taken that is not there: `first-le` (Laws/Bounds).
+-- the rest after it (01 Money 4). Nothing is taken that is not there: `first-le` (Laws/Bounds).
 unfoldable pub restPayment : Fen → Fen
 restPayment full = fen (full .0 - firstPayment full .0)
 
--- What the confirmation of an invoice pays, where `confirmed` and `paid` stand before it: its share of the rest, the fraction dropped, or
+-- What the confirmation of an invoice pays (01 Money 5, 6), where `confirmed` and `paid` stand before it: its share of the rest, the fraction dropped, or
 -- all that is unpaid once confirmed invoices reach full. Nothing is taken that is not there: `bound-le-rest` (Laws/Bounds) keeps paid
 -- within the rest.
 unfoldable pub partPayment : Fen → Fen → Fen → Fen → Fen
@@ -55,7 +55,7 @@ partPayment full confirmed paid invoice =
 
 -- ── Deposit and penalty ────────────────────────────────────────────────────────────────────────
 
--- fen for each receipt, the same for both
+-- fen for each receipt, the same for both (01 Money 7)
 abbrev pub perReceipt : ℕ
 perReceipt = 5000000
 
@@ -67,6 +67,6 @@ deposit = fen perReceipt
 abbrev pub penalty : Fen
 penalty = fen perReceipt
 
--- what of the penalty passes: no more than the seller has free (01, Calls, kind 11)
+-- what of the penalty passes: no more than the seller has free (01 Calls 20)
 unfoldable pub penaltyPassed : Fen → Fen
 penaltyPassed free = fen (min (free .0) (penalty .0))

@@ -1,8 +1,8 @@
--- The ranges of the numbers in calls and records (01, The image, sentence on ranges), and how many accounts, receipts and contracts a
+-- The ranges of the numbers in calls and records (01 Image 17), and how many accounts, receipts and contracts a
 -- zone has.
 -- Assumes nothing.
 use mathlib.Core.Bool.{Bool, _&&_}
-use Prim.Native.Nat.{ℕ, _%_, _^_}
+use Prim.Native.Nat.{ℕ, _-_, _%_, _^_}
 use lib.Dec.{eqb, leb}
 use lib.IntN.{ℤ, pos, negsuc}
 use lib.Signed.{leZ}
@@ -26,7 +26,7 @@ receiptCount = 128
 abbrev pub contractCount : ℕ
 contractCount = 8
 
--- an account; 0 is nobody
+-- an account; 0 is nobody (01 Image 6)
 abbrev pub isAccount : ℕ → Bool
 isAccount n = within 1 accountCount n
 
@@ -49,9 +49,12 @@ mostPrice = 200000
 abbrev pub isPrice : ℕ → Bool
 isPrice n = within 5 mostPrice n && eqb (n % 5) 0
 
--- at most 50,000 yuan per tonne, up or down (`negsuc n` is -(n + 1))
+abbrev pub mostBasis : ℕ
+mostBasis = 50000
+
+-- yuan per tonne, up or down (`negsuc n` is -(n + 1))
 abbrev pub isBasis : ℤ → Bool
-isBasis b = leZ (negsuc 49999) b && leZ b (pos 50000)
+isBasis b = leZ (negsuc (mostBasis - 1)) b && leZ b (pos mostBasis)
 
 abbrev pub mostWeight : ℕ
 mostWeight = 60000
@@ -66,11 +69,11 @@ isAmount n = within 1 (10 ^ 12) n
 
 -- ── Limits of the zone ─────────────────────────────────────────────────────────────────────────
 
--- all money of a zone
+-- all money of a zone (01 Image 15)
 abbrev pub moneyLimit : ℕ
 moneyLimit = 10 ^ 15
 
--- the last day of the calendar, and the last day that a lot can be due
+-- the last day of the calendar, and the last day that a lot can be due (01 Image 1, 15)
 abbrev pub lastDay : ℕ
 lastDay = 30000
 

@@ -1,4 +1,4 @@
-// The guideline's units, each a number type of its own, the ranges of numbers, and the money of a trade.
+// Yuan per tonne, fen and kilograms as types, the ranges of numbers, and the money of a trade.
 ghost use mathlib.Core.Path.{_≡_};
 ghost use Prim.Native.Nat.{_+_, _-_, _≤_, _<_, _^_};
 ghost use Rattle.units.specs.Ranges.{isZero, isAccount, isReceipt, isContract, isDays, isPrice, mostWeight, isBasis, isWeight, isAmount};

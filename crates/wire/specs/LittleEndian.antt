@@ -1,4 +1,4 @@
--- How a number stands in bytes: lowest byte first, and below 0 in two's complement (01, opening, sentence 5).
+-- How a number stands in bytes: lowest byte first, and below 0 in two's complement (01 Opening 5).
 -- A byte is a number below 256, a run of bytes a list; what is put from an offset on is `sets` of `lib.Seq`.
 -- Assumes nothing.
 use mathlib.Core.Bool.{cond}

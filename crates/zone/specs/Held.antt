@@ -1,4 +1,4 @@
--- The money of a lot: full payment and rest of its trade, and what it holds frozen, from whom (document 01, "The image").
+-- The money of a lot: full payment and rest of its trade, and what it holds frozen, from whom (01 Image 15).
 -- Assumes nothing.
 use mathlib.Core.Bool.{cond}
 use mathlib.Core.List.{List, [], _∷_}
@@ -18,7 +18,8 @@ full r = fullPayment (r .price) (r .basis) (r .weight)
 abbrev pub rest : Record → Fen
 rest r = restPayment (full r)
 
--- What the lot holds: "deposit in 2 to 4, full in 5, rest - paid in 6". Paid is never above the rest of a valid record.
+-- What the lot holds: the deposit from a bid until the trade is closed, full once it is settled, then the rest that is not paid yet.
+-- Nothing is taken that is not there: `paid-le-rest` (Laws/Held).
 unfoldable pub held : Record → Fen
 held r =
     cond (within 2 4 (r .state)) deposit

@@ -2,5 +2,4 @@ pub mod Record
 pub mod Held
 pub mod Valid
 pub mod Parts
-pub mod ByState
 pub mod Laws

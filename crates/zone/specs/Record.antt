@@ -1,5 +1,4 @@
--- A receipt as a value and as its record (document 01, "The image": the receipt record and the state table).
--- "A lot is the sale of one receipt and has its number": lot is document 01's own term.
+-- A receipt as a value and as its record (01 Image 4, 5, 7 to 14).
 -- Assumes nothing.
 use Prim.Native.Nat.{ℕ, zero, suc}
 use lib.IntN.{pos}
@@ -43,7 +42,7 @@ flatRecord owner weight state l b due i =
       paid = i .paid;
     }
 
--- The state table: "Fields filled besides owner and weight"; "Fields not filled are zero."
+-- The state table: what each state fills besides owner and weight; all else is zero.
 abbrev pub recordAs : ℕ → Kilograms → Lot → Record
 recordAs o w Idle = flatRecord o w 0 (noListing 0) (noBid 0) 0 noInvoices
 recordAs o w (Listed l) = flatRecord o w 1 l (noBid 0) 0 noInvoices

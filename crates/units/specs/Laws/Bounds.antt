@@ -14,7 +14,7 @@ use Rattle.units.specs.declared.Basis.{Basis}
 use Rattle.units.specs.declared.Fen.{Fen}
 use Rattle.units.specs.declared.Kilograms.{Kilograms}
 use Rattle.units.specs.declared.YuanPerTonne.{YuanPerTonne}
-use Rattle.units.specs.Ranges.{mostPrice, mostWeight}
+use Rattle.units.specs.Ranges.{mostPrice, mostBasis, mostWeight}
 use Rattle.units.specs.Payments.{fen, unitPrice, payable, atLeast0, fullPayment, firstPayment, restPayment, partPayment, penaltyPassed, perReceipt}
 
 -- ── price + basis ──────────────────────────────────────────────────────────────────────────────
@@ -43,12 +43,15 @@ unit-at-least price basis h = go (unitPrice price basis) h
 
 -- ── full, first, rest ──────────────────────────────────────────────────────────────────────────
 
--- in range, full payment is at most 1,500,000,000 fen (example 6)
+-- the largest full payment of fields in range (example 6)
+abbrev pub mostFull : ℕ
+mostFull = ((mostPrice + mostBasis) * mostWeight + 5) / 10
+
 pub full-at-most : (price : YuanPerTonne) (basis : Basis) (weight : Kilograms) →
-    price .0 ≤ mostPrice → leZ (basis .0) (pos 50000) ≡ true → weight .0 ≤ mostWeight → fullPayment price basis weight .0 ≤ 1500000000
+    price .0 ≤ mostPrice → leZ (basis .0) (pos mostBasis) ≡ true → weight .0 ≤ mostWeight → fullPayment price basis weight .0 ≤ mostFull
 unfolding fullPayment
 full-at-most price basis weight hp hb hw =
-    let u : atLeast0 (unitPrice price basis) ≤ 250000 = omega (arith, unit-at-most price basis 50000 hb) in
+    let u : atLeast0 (unitPrice price basis) ≤ mostPrice + mostBasis = omega (arith, unit-at-most price basis mostBasis hb) in
     omega (arith, mul-le-mul u hw)
 
 -- where price + basis can be paid and the weight is in range, full payment is at least 100 fen (example 3)

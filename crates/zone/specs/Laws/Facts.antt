@@ -13,7 +13,7 @@ use Rattle.units.specs.declared.Fen.{Fen}
 use Rattle.units.specs.declared.Kilograms.{Kilograms}
 use Rattle.units.specs.Payments.{fen, payable}
 use Rattle.units.specs.Laws.Bounds.{paidBound}
-use Rattle.units.specs.Ranges.{within, isPrice, isBasis}
+use Rattle.units.specs.Ranges.{within, isPrice, isBasis, accountCount, contractCount, mostPrice, mostWeight, lastDue}
 use Rattle.zone.specs.declared.Bid.{Bid}
 use Rattle.zone.specs.declared.Invoices.{Invoices}
 use Rattle.zone.specs.declared.Listing.{Listing}
@@ -27,14 +27,14 @@ use Rattle.zone.specs.Laws.Tests.{both, join, InRange, range-in, in-rang
 
 -- the fields of a listing in state n
 pub record ListingAt (n : ℕ) (l : Listing) : Type 0 where
-  pub seller : Filled (within 1 7 n) (InRange 1 96 (l .seller)) (l .seller ≡ 0)
-  pub contract : Filled (within 1 6 n) (InRange 1 8 (l .contract)) (l .contract ≡ 0)
+  pub seller : Filled (within 1 7 n) (InRange 1 accountCount (l .seller)) (l .seller ≡ 0)
+  pub contract : Filled (within 1 6 n) (InRange 1 contractCount (l .contract)) (l .contract ≡ 0)
   pub days : Filled (within 1 6 n) (l .days ≤ 3) (l .days ≡ 0)
   pub basis : Filled (within 1 6 n) (isBasis (l .basis .0) ≡ true) (l .basis .0 ≡ pos 0)
 
 -- the fields of a bid in state n, on a listing
 pub record BidAt (n : ℕ) (l : Listing) (b : Bid) : Type 0 where
-  pub buyer : Filled (within 2 7 n) (InRange 1 96 (b .buyer)) (b .buyer ≡ 0)
+  pub buyer : Filled (within 2 7 n) (InRange 1 accountCount (b .buyer)) (b .buyer ≡ 0)
   pub price : Filled (within 2 6 n) (isPrice (b .price .0) ≡ true) (b .price .0 ≡ 0)
   pub differ : within 2 7 n ≡ true → b .buyer ≢ l .seller
   pub pays : within 2 6 n ≡ true → payable (b .price) (l .basis) ≡ true
@@ -44,7 +44,7 @@ pub record OwnerAt (n owner seller buyer : ℕ) : Type 0 where
   pub is-seller : within 1 4 n || eqb n 7 ≡ true → owner ≡ seller
   pub is-buyer : within 5 6 n ≡ true → owner ≡ buyer
 
--- "in 6, confirmed < full, confirmed + pending ≤ full, paid ≤ rest × confirmed div full"
+-- the invoices of a lot in state 6
 pub record InvoicesIn (full : Fen) (i : Invoices) : Type 0 where
   pub confirmed : i .confirmed .0 < full .0
   pub pending : i .confirmed .0 + i .pending .0 ≤ full .0
@@ -52,8 +52,8 @@ pub record InvoicesIn (full : Fen) (i : Invoices) : Type 0 where
 
 -- the owner and the weight of a registered receipt
 pub record Owned (o : ℕ) (w : Kilograms) : Type 0 where
-  pub owner : InRange 1 96 o
-  pub weight : InRange 1000 60000 (w .0)
+  pub owner : InRange 1 accountCount o
+  pub weight : InRange 1000 mostWeight (w .0)
 
 -- what is known of a valid record with an owner, besides its invoices
 pub record FieldsIn (r : Record) : Type 0 where
@@ -61,7 +61,7 @@ pub record FieldsIn (r : Record) : Type 0 where
   pub owned : Owned (r .owner) (r .weight)
   pub listing : ListingAt (r .state) (listingOf r)
   pub bid : BidAt (r .state) (listingOf r) (bidOf r)
-  pub due : Filled (within 3 7 (r .state)) (InRange 1 30003 (r .due)) (r .due ≡ 0)
+  pub due : Filled (within 3 7 (r .state)) (InRange 1 lastDue (r .due)) (r .due ≡ 0)
   pub owner : OwnerAt (r .state) (r .owner) (r .seller) (r .buyer)
 
 -- what is known of a valid record with an owner
@@ -241,7 +241,7 @@ module _ (r : Record) where
         paid = fen (eqb-true (r .paid .0) 0 (t2 .1) j);
       }
 
-  -- "owner 0: unregistered, whole record zero"
+  -- a receipt without an owner is none
   pub unregistered : recordValid r ≡ true → r .owner ≡ 0 → r ≡ recordOf noReceipt
   unfolding recordValid
   unregistered h o = blank-is (rw (eq-eqb (r .owner) 0 o) at h)
@@ -255,16 +255,16 @@ none-valid = refl
 
 -- the largest that each field can be
 pub record Bounds (r : Record) : Type 0 where
-  pub owner : r .owner ≤ 96
+  pub owner : r .owner ≤ accountCount
   pub state : r .state ≤ 7
-  pub seller : r .seller ≤ 96
-  pub buyer : r .buyer ≤ 96
-  pub contract : r .contract ≤ 8
+  pub seller : r .seller ≤ accountCount
+  pub buyer : r .buyer ≤ accountCount
+  pub contract : r .contract ≤ contractCount
   pub days : r .days ≤ 3
-  pub due : r .due ≤ 30003
-  pub weight : r .weight .0 ≤ 60000
+  pub due : r .due ≤ lastDue
+  pub weight : r .weight .0 ≤ mostWeight
   pub basis : isBasis (r .basis .0) ≡ true
-  pub price : r .price .0 ≤ 200000
+  pub price : r .price .0 ≤ mostPrice
 
 -- the bounds of a record whose fields pass their tests
 pub fields-bounds : (r : Record) → FieldsIn r → Bounds r

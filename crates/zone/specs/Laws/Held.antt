@@ -14,7 +14,7 @@ use lib.ListN.{length, getD, set}
 use Rattle.units.specs.declared.Fen.{Fen}
 use Rattle.units.specs.declared.Kilograms.{Kilograms}
 use Rattle.units.specs.Payments.{fen, fullPayment, restPayment, deposit}
-use Rattle.units.specs.Laws.Bounds.{full-at-most, full-at-least, first-rest, bound-le-rest}
+use Rattle.units.specs.Laws.Bounds.{full-at-most, full-at-least, first-rest, bound-le-rest, mostFull}
 use Rattle.units.specs.Ranges.{within}
 use Rattle.zone.specs.declared.Account.{Account}
 use Rattle.zone.specs.declared.Bid.{Bid}
@@ -25,7 +25,7 @@ use Rattle.zone.specs.declared.Lot.the-variants.{Idle, Listed, BidStands
 use Rattle.zone.specs.declared.Record.{Record}
 use Rattle.zone.specs.Held.{full, rest, held, share, heldBy, heldSum, allMoney}
 use Rattle.zone.specs.Record.{recordAs, recordOf}
-use Rattle.zone.specs.Valid.{all, nothing, recordValid}
+use Rattle.zone.specs.Valid.{all, emptyAccount, recordValid}
 use Rattle.zone.specs.Laws.Tests.{both, price-at-most, basis-at-most, InRange, in-range, filled-either}
 use Rattle.zone.specs.Laws.Lots.{ListingIn, BidIn}
 use Rattle.zone.specs.Laws.Facts.{Owned, InvoicesIn, known, owner-some, unregistered, Bounds, bounds}
@@ -33,7 +33,7 @@ use Rattle.zone.specs.Laws.Facts.{Owned, InvoicesIn, known, owner-some, 
 -- ── One lot ────────────────────────────────────────────────────────────────────────────────────
 
 -- full payment of a record within its bounds
-pub full-le : (r : Record) → Bounds r → full r .0 ≤ 1500000000
+pub full-le : (r : Record) → Bounds r → full r .0 ≤ mostFull
 unfolding full
 full-le r B = full-at-most (r .price) (r .basis) (r .weight) (B .price) (basis-at-most (r .basis .0) (B .basis)) (B .weight)
 
@@ -45,7 +45,7 @@ full-ge r h s =
     full-at-least (r .price) (r .basis) (r .weight) (F .bid .pays (in-range s)) (F .owned .weight .low)
 
 -- full payment of a valid lot with a bid
-pub full-in : (o : ℕ) (w : Kilograms) (l : Listing) (b : Bid) → Owned o w → ListingIn l → BidIn l b → InRange 100 1500000000 (fullPayment (b .price) (l .basis) w .0)
+pub full-in : (o : ℕ) (w : Kilograms) (l : Listing) (b : Bid) → Owned o w → ListingIn l → BidIn l b → InRange 100 mostFull (fullPayment (b .price) (l .basis) w .0)
 full-in o w l b O L B =
     record {
       low = full-at-least (b .price) (l .basis) w (B .pays) (O .weight .low);
@@ -62,9 +62,9 @@ paid-le-rest f i I = omega (arith, I .confirmed, I .paid, bound-le-rest f (i .co
 
 -- no invoice passes the largest full payment
 pub record InvoiceBounds (r : Record) : Type 0 where
-  pub pending : r .pending .0 ≤ 1500000000
-  pub confirmed : r .confirmed .0 ≤ 1500000000
-  pub paid : r .paid .0 ≤ 1500000000
+  pub pending : r .pending .0 ≤ mostFull
+  pub confirmed : r .confirmed .0 ≤ mostFull
+  pub paid : r .paid .0 ≤ mostFull
 
 -- the invoices of a valid record
 pub invoice-bounds : (r : Record) → recordValid r ≡ true → InvoiceBounds r
@@ -89,17 +89,17 @@ invoice-bounds r h = go (ℕ-discrete (r .owner) 0)
         (known r h n .invoices)
 
 -- what a valid record holds is at most the largest full payment
-pub held-le : (r : Record) → recordValid r ≡ true → held r .0 ≤ 1500000000
+pub held-le : (r : Record) → recordValid r ≡ true → held r .0 ≤ mostFull
 unfolding held
 held-le r h = go (within 2 4 (r .state)) (eqb (r .state) 5) (eqb (r .state) 6) (full-le r (bounds r h))
   where
-    go : (a b c : Bool) → full r .0 ≤ 1500000000 → cond a deposit (cond b (full r) (cond c (fen (rest r .0 - r .paid .0)) (fen 0))) .0 ≤ 1500000000
+    go : (a b c : Bool) → full r .0 ≤ mostFull → cond a deposit (cond b (full r) (cond c (fen (rest r .0 - r .paid .0)) (fen 0))) .0 ≤ mostFull
     go true b c f = omega arith
     go false true c f = f
     go false false true f = omega (arith, rest-le (full r))
     go false false false f = omega arith
 
--- what a lot holds, state by state: "deposit in 2 to 4, full in 5, rest - paid in 6"
+-- what a lot holds, by its case
 abbrev pub lotHolds : Kilograms → Lot → Fen
 lotHolds w Idle = fen 0
 lotHolds w (Listed l) = fen 0
@@ -142,7 +142,7 @@ share-le x a n = go (eqb x a)
     go false = omega arith
 
 -- what a valid record holds from one account
-pub heldBy-le : (x : ℕ) (r : Record) → recordValid r ≡ true → heldBy x r ≤ 1500000000
+pub heldBy-le : (x : ℕ) (r : Record) → recordValid r ≡ true → heldBy x r ≤ mostFull
 unfolding heldBy
 heldBy-le x r h = omega (arith, share-le x (r .buyer) (held r .0), held-le r h)
 
@@ -162,7 +162,7 @@ module _ {A : Type 0} (rec : A → Record) (x : ℕ) where
   heldSum-at (a ∷ l) (suc k) d h = omega (arith, heldSum-at l k d (le-of-suc-le-suc h))
 
   -- what valid lots hold from one account
-  pub heldSum-le : (l : List A) → all (λ r. recordValid (rec r)) l ≡ true → heldSum rec x l ≤ 1500000000 * length l
+  pub heldSum-le : (l : List A) → all (λ r. recordValid (rec r)) l ≡ true → heldSum rec x l ≤ mostFull * length l
   unfolding heldSum all
   heldSum-le [] h = omega arith
   heldSum-le (a ∷ l) h =
@@ -183,7 +183,7 @@ allMoney-set (b ∷ l) zero a d h = omega arith
 allMoney-set (b ∷ l) (suc k) a d h = omega (arith, allMoney-set l k a d (le-of-suc-le-suc h))
 
 -- the money of one account is part of all money
-pub money-le : (l : List Account) (k : ℕ) → money (getD l k nothing) ≤ allMoney l
+pub money-le : (l : List Account) (k : ℕ) → money (getD l k emptyAccount) ≤ allMoney l
 unfolding allMoney
 money-le [] k = omega arith
 money-le (b ∷ l) zero = omega arith

@@ -9,7 +9,7 @@ use native.Mathlib.Omega.{arith}
 use lib.Dec.{eqb}
 use Rattle.units.specs.declared.Kilograms.{Kilograms}
 use Rattle.units.specs.Payments.{fullPayment, payable}
-use Rattle.units.specs.Ranges.{within, isPrice, isBasis}
+use Rattle.units.specs.Ranges.{within, isPrice, isBasis, accountCount, contractCount, lastDue}
 use Rattle.zone.specs.declared.Bid.{Bid}
 use Rattle.zone.specs.declared.Invoices.{Invoices}
 use Rattle.zone.specs.declared.Listing.{Listing}
@@ -28,14 +28,14 @@ use Rattle.zone.specs.Laws.Facts.{ListingAt, BidAt, OwnerAt, InvoicesIn,
 
 -- what a seller lists
 pub record ListingIn (l : Listing) : Type 0 where
-  pub seller : InRange 1 96 (l .seller)
-  pub contract : InRange 1 8 (l .contract)
+  pub seller : InRange 1 accountCount (l .seller)
+  pub contract : InRange 1 contractCount (l .contract)
   pub days : l .days ≤ 3
   pub basis : isBasis (l .basis .0) ≡ true
 
 -- a bid on a listing
 pub record BidIn (l : Listing) (b : Bid) : Type 0 where
-  pub buyer : InRange 1 96 (b .buyer)
+  pub buyer : InRange 1 accountCount (b .buyer)
   pub price : isPrice (b .price .0) ≡ true
   pub differ : b .buyer ≢ l .seller
   pub pays : payable (b .price) (l .basis) ≡ true
@@ -44,7 +44,7 @@ pub record BidIn (l : Listing) (b : Bid) : Type 0 where
 pub record TradeIn (t : Trade) : Type 0 where
   pub listing : ListingIn (t .listing)
   pub bid : BidIn (t .listing) (t .bid)
-  pub due : InRange 1 30003 (t .due)
+  pub due : InRange 1 lastDue (t .due)
 
 -- ── The eight states, of a receipt with owner o and weight w ───────────────────────────────────
 
@@ -87,10 +87,10 @@ pub record FirstPaidIn (o : ℕ) (w : Kilograms) (t : Trade) (i : Invoices) : Ty
 pub record PenaltyDueIn (o : ℕ) (w : Kilograms) (seller buyer due : ℕ) : Type 0 where
   pub owned : Owned o w
   pub owner : o ≡ seller
-  pub seller-in : InRange 1 96 seller
-  pub buyer-in : InRange 1 96 buyer
+  pub seller-in : InRange 1 accountCount seller
+  pub buyer-in : InRange 1 accountCount buyer
   pub differ : buyer ≢ seller
-  pub due-in : InRange 1 30003 due
+  pub due-in : InRange 1 lastDue due
 
 -- what a valid receipt knows of its lot
 abbrev pub LotIn : ℕ → Kilograms → Lot → Type 0

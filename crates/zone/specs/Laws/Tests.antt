@@ -2,14 +2,14 @@
 -- Assumes nothing.
 use mathlib.Core.Bool.{Bool, true, false, _&&_, true≢false, false≢true, and-eq-true-iff}
 use mathlib.Core.Path.{_≡_, refl, sym, ap, _∙_}
-use Prim.Native.Nat.{ℕ, _≤_}
+use Prim.Native.Nat.{ℕ, _≤_, _-_}
 use native.Mathlib.Omega.{arith}
 use borrow.Author.Tests.{leb-true, le-leb}
 use lib.Dec.{leb}
 use lib.IntN.{ℤ, pos, negsuc}
 use lib.Signed.{leZ}
-use Rattle.units.specs.Ranges.{within, isPrice, isBasis}
-use Rattle.zone.specs.Valid.{isZero, filled, inStates}
+use Rattle.units.specs.Ranges.{within, isZero, mostPrice, isPrice, isBasis, mostBasis}
+use Rattle.zone.specs.Valid.{filled, inStates}
 
 -- both parts of a test that passes
 pub both : (a b : Bool) → a && b ≡ true → (a ≡ true) × (b ≡ true)
@@ -36,15 +36,15 @@ inside lo hi n p q = rw (le-leb lo n p, le-leb n hi q)
 pub in-range : {lo hi n : ℕ} → InRange lo hi n → within lo hi n ≡ true
 in-range {lo} {hi} {n} h = inside lo hi n (h .low) (h .high)
 
--- a price is at most 200,000
-pub price-at-most : (n : ℕ) → isPrice n ≡ true → n ≤ 200000
+-- no price is above the largest
+pub price-at-most : (n : ℕ) → isPrice n ≡ true → n ≤ mostPrice
 price-at-most n h =
-    let r : InRange 5 200000 n = range-in (both _ _ h .0) in
+    let r : InRange 5 mostPrice n = range-in (both _ _ h .0) in
     r .high
 
--- a basis is at most 50,000
-pub basis-at-most : (z : ℤ) → isBasis z ≡ true → leZ z (pos 50000) ≡ true
-basis-at-most z h = both (leZ (negsuc 49999) z) _ h .1
+-- no basis is above the largest
+pub basis-at-most : (z : ℤ) → isBasis z ≡ true → leZ z (pos mostBasis) ≡ true
+basis-at-most z h = both (leZ (negsuc (mostBasis - 1)) z) _ h .1
 
 -- what the test of a signed zero tells, and what makes it pass
 pub zero-is : (z : ℤ) → isZero z ≡ true → z ≡ pos 0

@@ -3,7 +3,7 @@
 use mathlib.Core.Bool.{Bool, true}
 use mathlib.Core.List.{List, [], _∷_}
 use mathlib.Core.Path.{_≡_, refl, ap, _∙_}
-use Prim.Native.Nat.{ℕ, zero, suc, _+_, _^_, _≤_, _<_}
+use Prim.Native.Nat.{ℕ, zero, suc, _+_, _≤_, _<_}
 use native.Mathlib.Nat.{not-suc-le-zero, le-of-suc-le-suc}
 use native.Mathlib.Omega.{arith}
 use borrow.Author.Tests.{leb-true, le-leb, eqb-true, eq-eqb}
@@ -11,12 +11,13 @@ use lib.Dec.{eqb}
 use lib.ListN.{length, getD, set}
 use Rattle.units.specs.declared.Fen.{Fen}
 use Rattle.units.specs.declared.YuanPerTonne.{YuanPerTonne}
+use Rattle.units.specs.Ranges.{lastDay, moneyLimit}
 use Rattle.zone.specs.declared.Account.{Account}
 use Rattle.zone.specs.declared.Record.{Record}
 use Rattle.zone.specs.declared.Zone.{Zone}
 use Rattle.zone.specs.Held.{full, held, share, heldBy, heldSum, allMoney}
 use Rattle.zone.specs.Record.{recordOf}
-use Rattle.zone.specs.Valid.{all, askOk, blank, frozenOk, booksOk, validZone, nothing, freshZone, recordValid}
+use Rattle.zone.specs.Valid.{all, askOk, blank, frozenOk, booksOk, validZone, emptyAccount, freshZone, recordValid}
 use Rattle.zone.specs.Laws.Tests.{both, join, InRange, range-in, in-range}
 
 -- ── A test of every element ────────────────────────────────────────────────────────────────────
@@ -47,9 +48,9 @@ module _ {A : Type 0} (f : A → Bool) where
 -- ── The whole ──────────────────────────────────────────────────────────────────────────────────
 
 module _ {A : Type 0} (rec : A → Record) where
-  -- "each frozen equals what the lots hold from that account", account by account; the first is account x
+  -- the frozen money, account by account; the first is account x
   frozen-in : (x : ℕ) (l : List Account) (rs : List A) → frozenOk rec x l rs ≡ true →
-      (k : ℕ) → k < length l → getD l k nothing .frozen .0 ≡ heldSum rec (x + k) rs
+      (k : ℕ) → k < length l → getD l k emptyAccount .frozen .0 ≡ heldSum rec (x + k) rs
   unfolding frozenOk
   frozen-in x [] rs h k p = absurd (not-suc-le-zero p)
   frozen-in x (a ∷ l) rs h zero p = eqb-true _ _ (both _ _ h .0) ∙ ap (λ (n : ℕ). heldSum rec n rs) (omega arith)
@@ -58,7 +59,7 @@ module _ {A : Type 0} (rec : A → Record) where
       ∙ ap (λ (n : ℕ). heldSum rec n rs) (omega arith)
 
   in-frozen : (x : ℕ) (l : List Account) (rs : List A) →
-      ((k : ℕ) → k < length l → getD l k nothing .frozen .0 ≡ heldSum rec (x + k) rs) → frozenOk rec x l rs ≡ true
+      ((k : ℕ) → k < length l → getD l k emptyAccount .frozen .0 ≡ heldSum rec (x + k) rs) → frozenOk rec x l rs ≡ true
   unfolding frozenOk
   in-frozen x [] rs h = refl
   in-frozen x (a ∷ l) rs h =
@@ -67,7 +68,7 @@ module _ {A : Type 0} (rec : A → Record) where
 
   -- every frozen of the accounts, counted from 1; account suc k stands at k
   abbrev pub Frozen : List Account → List A → Type 0
-  Frozen l rs = (k : ℕ) → k < length l → getD l k nothing .frozen .0 ≡ heldSum rec (suc k) rs
+  Frozen l rs = (k : ℕ) → k < length l → getD l k emptyAccount .frozen .0 ≡ heldSum rec (suc k) rs
 
   -- what the test of the frozen sums tells, and what makes it pass
   pub frozen-each : (l : List Account) (rs : List A) → frozenOk rec 1 l rs ≡ true → Frozen l rs
@@ -78,12 +79,12 @@ module _ {A : Type 0} (rec : A → Record) where
 
   -- the books of an image or a zone, as facts
   pub record Books (day : ℕ) (asks : List YuanPerTonne) (accounts : List Account) (rs : List A) (total : Fen) : Type 0 where
-    pub day-in : InRange 1 30000 day
+    pub day-in : InRange 1 lastDay day
     pub asks-ok : all askOk asks ≡ true
     pub records : all (λ r. recordValid (rec r)) rs ≡ true
     pub frozen : Frozen accounts rs
     pub total-is : total .0 ≡ allMoney accounts
-    pub total-in : total .0 ≤ 10 ^ 15
+    pub total-in : total .0 ≤ moneyLimit
 
   module _ (day : ℕ) (asks : List YuanPerTonne) (accounts : List Account) (rs : List A) (total : Fen) where
     -- what the test of the books tells, and what makes it pass
