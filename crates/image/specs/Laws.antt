@@ -3,8 +3,6 @@ pub mod Bytes
 pub mod Layout
 pub mod Fields
 pub mod Records
-pub mod Turns
-pub mod Verdict
 pub mod Books
 pub mod RoundTrip
 pub mod Places

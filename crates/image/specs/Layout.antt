@@ -1,12 +1,14 @@
--- Where each field stands in an image (document 01, "The image"). Every offset and size stands here and in the header's test alone.
+-- Where each part and each field of an image stands (01 Image 1 to 4). Every length, start and place is named here once, and each start
+-- follows from what stands before it; src/lib.rt has a const for each name that the code uses.
 -- Assumes nothing.
 use mathlib.Core.Bool.{Bool, cond, _&&_}
 use mathlib.Core.List.{List, [], _∷_, _++_}
-use Prim.Native.Nat.{ℕ}
+use Prim.Native.Nat.{ℕ, _+_, _*_}
 use lib.Dec.{eqb, leb}
 use lib.ListN.{getD}
 use Rattle.units.specs.declared.YuanPerTonne.{YuanPerTonne}
 use Rattle.units.specs.Payments.{fen}
+use Rattle.units.specs.Ranges.{accountCount, receiptCount, contractCount}
 use Rattle.wire.specs.LittleEndian.{leAt, leBytes, signed32, bits32}
 use Rattle.zone.specs.declared.Account.{Account}
 use Rattle.zone.specs.declared.Receipt.{Receipt}
@@ -14,35 +16,68 @@ use Rattle.zone.specs.declared.Record.{Record}
 use Rattle.zone.specs.Record.{recordOf, receiptOf}
 use Rattle.image.specs.Table.{table, recordAt}
 
--- "image of 5,696 bytes"
+-- ── Lengths and starts of the parts ────────────────────────────────────────────────────────────
+
+abbrev pub headerLength : ℕ
+headerLength = 32
+
+abbrev pub accountLength : ℕ
+accountLength = 16
+
+abbrev pub askLength : ℕ
+askLength = 4
+
+abbrev pub receiptLength : ℕ
+receiptLength = 32
+
+-- the tables stand one behind the other
+abbrev pub accountStart : ℕ
+accountStart = headerLength
+
+abbrev pub contractStart : ℕ
+contractStart = accountStart + accountCount * accountLength
+
+abbrev pub receiptStart : ℕ
+receiptStart = contractStart + contractCount * askLength
+
 abbrev pub imageLength : ℕ
-imageLength = 5696
+imageLength = receiptStart + receiptCount * receiptLength
 
--- ── The header: 32 bytes ───────────────────────────────────────────────────────────────────────
+-- ── The header ─────────────────────────────────────────────────────────────────────────────────
 
--- "u16 counts 96, 128, 8 at 0, 2, 4", "u32 offsets 32, 1568, 1600 of accounts, contracts, receipts at 8, 12, 16",
--- "phase at 20 (0 morning, 1 afternoon); three zero bytes"
+-- the fields that change; between them stand counts, starts and zeros
+abbrev pub dayAt : ℕ
+dayAt = 6
+
+abbrev pub phaseAt : ℕ
+phaseAt = 20
+
+abbrev pub totalAt : ℕ
+totalAt = 24
+
+-- the counts and starts are as named, the phase is morning or afternoon, and three bytes are zero
 unfoldable pub headerOk : List ℕ → Bool
 headerOk s =
-    eqb (leAt 2 s 0) 96 && eqb (leAt 2 s 2) 128 && eqb (leAt 2 s 4) 8 && eqb (leAt 4 s 8) 32 && eqb (leAt 4 s 12) 1568
-    && eqb (leAt 4 s 16) 1600 && leb (getD s 20 0) 1 && eqb (getD s 21 0) 0 && eqb (getD s 22 0) 0 && eqb (getD s 23 0) 0
+    eqb (leAt 2 s 0) accountCount && eqb (leAt 2 s 2) receiptCount && eqb (leAt 2 s 4) contractCount
+    && eqb (leAt 4 s 8) accountStart && eqb (leAt 4 s 12) contractStart && eqb (leAt 4 s 16) receiptStart
+    && leb (getD s phaseAt 0) 1 && eqb (getD s 21 0) 0 && eqb (getD s 22 0) 0 && eqb (getD s 23 0) 0
 
--- "day u16 at 6", "total u64 at 24"
 abbrev pub dayIn : List ℕ → ℕ
-dayIn s = leAt 2 s 6
+dayIn s = leAt 2 s dayAt
 
 abbrev pub afternoonIn : List ℕ → Bool
-afternoonIn s = eqb (getD s 20 0) 1
+afternoonIn s = eqb (getD s phaseAt 0) 1
 
 abbrev pub totalIn : List ℕ → ℕ
-totalIn s = leAt 8 s 24
+totalIn s = leAt 8 s totalAt
 
 unfoldable pub headerBytes : ℕ → Bool → ℕ → List ℕ
 headerBytes day afternoon total =
-    leBytes 2 96 ++ leBytes 2 128 ++ leBytes 2 8 ++ leBytes 2 day ++ leBytes 4 32 ++ leBytes 4 1568 ++ leBytes 4 1600
+    leBytes 2 accountCount ++ leBytes 2 receiptCount ++ leBytes 2 contractCount ++ leBytes 2 day
+    ++ leBytes 4 accountStart ++ leBytes 4 contractStart ++ leBytes 4 receiptStart
     ++ (cond afternoon 1 0 ∷ 0 ∷ 0 ∷ 0 ∷ []) ++ leBytes 8 total
 
--- ── "Account: free u64, frozen u64." ───────────────────────────────────────────────────────────
+-- ── An account: free money, then frozen money ──────────────────────────────────────────────────
 
 unfoldable pub accountIn : List ℕ → Account
 accountIn b = record { free = fen (leAt 8 b 0); frozen = fen (leAt 8 b 8) }
@@ -50,10 +85,14 @@ accountIn b = record { free = fen (leAt 8 b 0); frozen = fen (leAt 8 b 8) }
 unfoldable pub accountBytes : Account → List ℕ
 accountBytes a = leBytes 8 (a .free .0) ++ leBytes 8 (a .frozen .0)
 
-unfoldable pub accountsIn : List ℕ → List Account
-accountsIn s = table 96 (λ i. accountIn (recordAt 32 16 s i))
+-- the bytes of account k; accounts, contracts and receipts are counted from 0 here
+abbrev pub accountRun : List ℕ → ℕ → List ℕ
+accountRun s k = recordAt accountStart accountLength s k
 
--- ── "Contract: ask u32, the best sell price; 0 means none." ────────────────────────────────────
+unfoldable pub accountsIn : List ℕ → List Account
+accountsIn s = table accountCount (λ i. accountIn (accountRun s i))
+
+-- ── A contract: its ask, 0 for none ────────────────────────────────────────────────────────────
 
 unfoldable pub askIn : List ℕ → YuanPerTonne
 askIn b = record { 0 = leAt 4 b 0 }
@@ -61,20 +100,29 @@ askIn b = record { 0 = leAt 4 b 0 }
 unfoldable pub askBytes : YuanPerTonne → List ℕ
 askBytes ask = leBytes 4 (ask .0)
 
-unfoldable pub asksIn : List ℕ → List YuanPerTonne
-asksIn s = table 8 (λ i. askIn (recordAt 1568 4 s i))
+abbrev pub askRun : List ℕ → ℕ → List ℕ
+askRun s k = recordAt contractStart askLength s k
 
--- ── "Receipt (32 bytes): owner, state, seller, buyer, contract, days D, one byte each; due day u16; weight u32; basis i32; price,
--- pending invoice, confirmed, paid of rest, u32 each." ─────────────────────────────────────────
+unfoldable pub asksIn : List ℕ → List YuanPerTonne
+asksIn s = table contractCount (λ i. askIn (askRun s i))
+
+-- ── A receipt's record ─────────────────────────────────────────────────────────────────────────
+
+-- the places of two of its bytes that are read without the others
+abbrev pub stateAt : ℕ
+stateAt = 1
+
+abbrev pub contractAt : ℕ
+contractAt = 4
 
 unfoldable pub recordIn : List ℕ → Record
 recordIn b =
     record {
       owner = getD b 0 0;
-      state = getD b 1 0;
+      state = getD b stateAt 0;
       seller = getD b 2 0;
       buyer = getD b 3 0;
-      contract = getD b 4 0;
+      contract = getD b contractAt 0;
       days = getD b 5 0;
       due = leAt 2 b 6;
       weight = record { 0 = leAt 4 b 8 };
@@ -91,11 +139,14 @@ recordBytes r =
     ++ leBytes 4 (bits32 (r .basis .0)) ++ leBytes 4 (r .price .0) ++ leBytes 4 (r .pending .0) ++ leBytes 4 (r .confirmed .0)
     ++ leBytes 4 (r .paid .0)
 
+abbrev pub receiptRun : List ℕ → ℕ → List ℕ
+receiptRun s k = recordAt receiptStart receiptLength s k
+
 unfoldable pub recordsIn : List ℕ → List Record
-recordsIn s = table 128 (λ i. recordIn (recordAt 1600 32 s i))
+recordsIn s = table receiptCount (λ i. recordIn (receiptRun s i))
 
 unfoldable pub receiptsIn : List ℕ → List Receipt
-receiptsIn s = table 128 (λ i. receiptOf (recordIn (recordAt 1600 32 s i)))
+receiptsIn s = table receiptCount (λ i. receiptOf (recordIn (receiptRun s i)))
 
 unfoldable pub receiptBytes : Receipt → List ℕ
 receiptBytes r = recordBytes (recordOf r)

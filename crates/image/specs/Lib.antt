@@ -1,5 +1,4 @@
 pub mod Table
 pub mod Layout
 pub mod Image
-pub mod Sums
 pub mod Laws

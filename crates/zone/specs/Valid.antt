@@ -123,13 +123,17 @@ noReceipt = record { owner = 0; weight = record { 0 = 0 }; lot = Idle }
 abbrev pub noAsk : YuanPerTonne
 noAsk = record { 0 = 0 }
 
+-- no contract has an ask
+abbrev pub noAsks : List YuanPerTonne
+noAsks = replicate contractCount noAsk
+
 -- no money, no receipts, no asks, on the morning of day 1
 unfoldable pub freshZone : Zone
 freshZone =
     record {
       day = 1;
       afternoon = false;
-      asks = replicate contractCount noAsk;
+      asks = noAsks;
       accounts = replicate accountCount emptyAccount;
       receipts = replicate receiptCount noReceipt;
       total = fen 0;

@@ -1,8 +1,8 @@
 use lib.ListN.{replicate}
 use Rattle.zone.specs.Valid.{freshZone}
 use borrow.Author.Needs.{needs}
-use Rattle.zone.proofs.fresh_zone.Statement.{statement}
-use Rattle.zone.proofs.fresh_zone.Tie as tie
+use Rattle.fresh.proofs.fresh_zone.Statement.{statement}
+use Rattle.fresh.proofs.fresh_zone.Tie as tie
 
 no-receipt-requires : tie.Need-no-receipt-requires
 no-receipt-requires c κs = search needs

@@ -1,10 +1,9 @@
--- The 16 bytes from its place on.
-use mathlib.Core.Path.{_≡_, ap, _∙_}
-use Prim.Native.Nat.{ℕ, _+_, _*_, _-_}
-use native.Mathlib.Omega.{arith}
+-- The bytes from its place on.
+use mathlib.Core.Path.{ap, _∙_}
+use Prim.Native.Nat.{_+_, _*_}
 use denote.Ref.{now}
-use lib.ListN.{take, drop}
-use Rattle.image.specs.Layout.{accountIn}
+use Rattle.image.specs.Layout.{accountLength, accountStart, accountIn}
+use Rattle.image.specs.Laws.Table.{part-wide}
 use borrow.Author.Needs.{needs}
 use Rattle.image.proofs.account_at.Statement.{statement}
 use Rattle.image.proofs.account_at.Tie as tie
@@ -32,9 +31,8 @@ account-in-requires c κs = search needs
 
 returns : tie.Need-returns
 returns c =
-    let at = 32 + c .before .before .before .args .k * 16 in
-    let wide : at + 16 - at ≡ 16 = omega arith in
-    c .account-in .ensures ∙ ap (λ (n : ℕ). accountIn (take n (drop at (now (c .before .before .before .args .image))))) wide
+    let k = c .before .before .before .args .k in
+    c .account-in .ensures ∙ ap accountIn (part-wide (accountStart + k * accountLength) accountLength (now (c .before .before .before .args .image)))
 
 pub account-at-spec : {M : Type 1} → statement M
 account-at-spec =

@@ -5,8 +5,7 @@ use native.Mathlib.Nat.{add-zero}
 use denote.Ref.{now}
 use lib.Dec.{lit≤}
 use Rattle.wire.specs.LittleEndian.{leAt}
-use Rattle.image.specs.Table.{recordAt}
-use Rattle.image.specs.Layout.{askIn}
+use Rattle.image.specs.Layout.{askLength, contractStart, askRun, askIn}
 use Rattle.image.specs.Laws.Table.{leAt-part}
 use borrow.Author.Needs.{needs}
 use Rattle.image.proofs.ask_at.Statement.{statement}
@@ -25,8 +24,8 @@ returns : tie.Need-returns
 unfolding askIn
 returns c =
     let s = now (c .before .before .args .image) in
-    let at = 1568 + c .before .before .args .k * 4 in
-    let part : leAt 4 (recordAt 1568 4 s (c .before .before .args .k)) 0 ≡ leAt 4 s at = leAt-part 4 s at 0 4 (lit≤ tt) ∙ ap (leAt 4 s) (add-zero at) in
+    let at = contractStart + c .before .before .args .k * askLength in
+    let part : leAt 4 (askRun s (c .before .before .args .k)) 0 ≡ leAt 4 s at = leAt-part 4 s at 0 askLength (lit≤ tt) ∙ ap (leAt 4 s) (add-zero at) in
     rw (c .get-u32 .ensures, part)
 
 pub ask-at-spec : {M : Type 1} → statement M

@@ -1,10 +1,9 @@
--- The 32 bytes from its place on.
-use mathlib.Core.Path.{_≡_, ap, _∙_}
-use Prim.Native.Nat.{ℕ, _+_, _*_, _-_}
-use native.Mathlib.Omega.{arith}
+-- The bytes from its place on.
+use mathlib.Core.Path.{ap, _∙_}
+use Prim.Native.Nat.{_+_, _*_}
 use denote.Ref.{now}
-use lib.ListN.{take, drop}
-use Rattle.image.specs.Layout.{recordIn}
+use Rattle.image.specs.Layout.{receiptLength, receiptStart, recordIn}
+use Rattle.image.specs.Laws.Table.{part-wide}
 use borrow.Author.Needs.{needs}
 use Rattle.image.proofs.record_at.Statement.{statement}
 use Rattle.image.proofs.record_at.Tie as tie
@@ -32,9 +31,8 @@ record-in-requires c κs = search needs
 
 returns : tie.Need-returns
 returns c =
-    let at = 1600 + c .before .before .before .args .k * 32 in
-    let wide : at + 32 - at ≡ 32 = omega arith in
-    c .record-in .ensures ∙ ap (λ (n : ℕ). recordIn (take n (drop at (now (c .before .before .before .args .image))))) wide
+    let k = c .before .before .before .args .k in
+    c .record-in .ensures ∙ ap recordIn (part-wide (receiptStart + k * receiptLength) receiptLength (now (c .before .before .before .args .image)))
 
 pub record-at-spec : {M : Type 1} → statement M
 record-at-spec =

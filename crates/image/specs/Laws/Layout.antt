@@ -11,41 +11,42 @@ use Rattle.zone.specs.declared.Account.{Account}
 use Rattle.zone.specs.declared.Receipt.{Receipt}
 use Rattle.zone.specs.declared.Record.{Record}
 use Rattle.zone.specs.Record.{recordOf}
-use Rattle.image.specs.Layout.{headerBytes, accountBytes, askBytes, recordBytes, receiptBytes, accountsIn, asksIn, recordsIn, receiptsIn}
+use Rattle.units.specs.Ranges.{accountCount, receiptCount, contractCount}
+use Rattle.image.specs.Layout.{headerLength, accountLength, askLength, receiptLength, headerBytes, accountBytes, askBytes, recordBytes, receiptBytes, accountsIn, asksIn, recordsIn, receiptsIn}
 use Rattle.image.specs.Laws.Table.{length-table}
 
-pub header-wide : (day : ℕ) (afternoon : Bool) (total : ℕ) → length (headerBytes day afternoon total) ≡ 32
+pub header-wide : (day : ℕ) (afternoon : Bool) (total : ℕ) → length (headerBytes day afternoon total) ≡ headerLength
 unfolding headerBytes leBytes
 header-wide day afternoon total = refl
 
-pub account-wide : (a : Account) → length (accountBytes a) ≡ 16
+pub account-wide : (a : Account) → length (accountBytes a) ≡ accountLength
 unfolding accountBytes leBytes
 account-wide a = refl
 
-pub ask-wide : (a : YuanPerTonne) → length (askBytes a) ≡ 4
+pub ask-wide : (a : YuanPerTonne) → length (askBytes a) ≡ askLength
 unfolding askBytes leBytes
 ask-wide a = refl
 
-pub record-wide : (r : Record) → length (recordBytes r) ≡ 32
+pub record-wide : (r : Record) → length (recordBytes r) ≡ receiptLength
 unfolding recordBytes leBytes
 record-wide r = refl
 
-pub receipt-wide : (r : Receipt) → length (receiptBytes r) ≡ 32
+pub receipt-wide : (r : Receipt) → length (receiptBytes r) ≡ receiptLength
 unfolding receiptBytes
 receipt-wide r = record-wide (recordOf r)
 
-pub length-accounts : (s : List ℕ) → length (accountsIn s) ≡ 96
+pub length-accounts : (s : List ℕ) → length (accountsIn s) ≡ accountCount
 unfolding accountsIn
-length-accounts s = length-table 96 _
+length-accounts s = length-table accountCount _
 
-pub length-asks : (s : List ℕ) → length (asksIn s) ≡ 8
+pub length-asks : (s : List ℕ) → length (asksIn s) ≡ contractCount
 unfolding asksIn
-length-asks s = length-table 8 _
+length-asks s = length-table contractCount _
 
-pub length-records : (s : List ℕ) → length (recordsIn s) ≡ 128
+pub length-records : (s : List ℕ) → length (recordsIn s) ≡ receiptCount
 unfolding recordsIn
-length-records s = length-table 128 _
+length-records s = length-table receiptCount _
 
-pub length-receipts : (s : List ℕ) → length (receiptsIn s) ≡ 128
+pub length-receipts : (s : List ℕ) → length (receiptsIn s) ≡ receiptCount
 unfolding receiptsIn
-length-receipts s = length-table 128 _
+length-receipts s = length-table receiptCount _

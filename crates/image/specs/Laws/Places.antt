@@ -8,6 +8,7 @@ use native.Mathlib.Nat.{suc-mul, zero-mul, add-comm, zero-add}
 use native.Mathlib.Omega.{arith}
 use lib.ListN.{length, set, drop, replicate, length-append, length-set}
 use lib.Seq.{sets, sets-eq, drop-at}
+use Rattle.units.specs.declared.Fen.{Fen}
 use Rattle.units.specs.declared.YuanPerTonne.{YuanPerTonne}
 use Rattle.wire.specs.LittleEndian.{leBytes}
 use Rattle.zone.specs.declared.Account.{Account}
@@ -15,11 +16,13 @@ use Rattle.zone.specs.declared.Receipt.{Receipt}
 use Rattle.zone.specs.declared.Zone.{Zone}
 use Rattle.zone.specs.Parts.{withClock, withAsks, withAccounts, withReceipts, withTotal}
 use Rattle.image.specs.Table.{tableBytes}
-use Rattle.image.specs.Layout.{headerBytes, accountBytes, askBytes, receiptBytes}
-use Rattle.image.specs.Image.{encode}
+use Rattle.units.specs.Ranges.{accountCount, receiptCount, contractCount}
+use Rattle.zone.specs.Valid.{Sized, noAsks}
+use Rattle.image.specs.Layout.{accountLength, askLength, receiptLength, accountStart, contractStart, receiptStart, dayAt, phaseAt, totalAt, headerBytes, accountBytes, askBytes, receiptBytes}
+use Rattle.image.specs.Image.{decode, encode, Encoded}
 use Rattle.image.specs.Laws.Table.{length-tableBytes}
 use Rattle.image.specs.Laws.Layout.{account-wide, ask-wide, receipt-wide}
-use Rattle.image.specs.Laws.RoundTrip.{headerPart, accountsPart, asksPart, receiptsPart, header-first, accounts-first, header-long, accounts-long, asks-long}
+use Rattle.image.specs.Laws.RoundTrip.{decode-sized, headerPart, accountsPart, asksPart, receiptsPart, header-first, accounts-first, header-long, accounts-long, asks-long}
 
 -- ── A run in the middle of a list ──────────────────────────────────────────────────────────────
 
@@ -85,52 +88,74 @@ module _ {A : Type 0} (f : A → List ℕ) (size : ℕ) (wide : (x : A) → leng
       ∙ ap (λ (t : List ℕ). p ++ t) (record-put l i x q h)
       ∙ sym (append-assoc p (tableBytes f (set l i x)) q)
 
--- eight asks of 0
-abbrev pub noAsks : List YuanPerTonne
-noAsks = replicate 8 (record { 0 = 0 })
-
-no-asks : replicate 32 0 ≡ tableBytes askBytes noAsks
+no-asks : replicate (contractCount * askLength) 0 ≡ tableBytes askBytes noAsks
 unfolding tableBytes askBytes leBytes
 no-asks = refl
 
 -- ── A zone's bytes ─────────────────────────────────────────────────────────────────────────────
 
-module _ (z : Zone) (na : length (z .accounts) ≡ 96) (nr : length (z .receipts) ≡ 128) (nk : length (z .asks) ≡ 8) where
-  pub account-put : (k : ℕ) (a : Account) → k < 96 →
-      sets (encode z) (32 + k * 16) (accountBytes a) ≡ encode (withAccounts z (set (z .accounts) k a))
+-- a zone with one part changed has tables of the same lengths
+module _ (z : Zone) (S : Sized z) where
+  accounts-set : (k : ℕ) (a : Account) → Sized (withAccounts z (set (z .accounts) k a))
+  accounts-set k a = record { accounts = length-set (z .accounts) k a ∙ S .accounts; receipts = S .receipts; asks = S .asks }
+
+  total-set : (t : Fen) → Sized (withTotal z t)
+  total-set t = record { accounts = S .accounts; receipts = S .receipts; asks = S .asks }
+
+  clock-set : (day : ℕ) (afternoon : Bool) → Sized (withClock z day afternoon)
+  clock-set day afternoon = record { accounts = S .accounts; receipts = S .receipts; asks = S .asks }
+
+-- the image s of the zone that it is read as
+module _ (s : List ℕ) (e : Encoded s) where
+  abbrev z : Zone
+  z = decode s
+
+  S : Sized (decode s)
+  S = decode-sized s
+
+  pub account-put : (k : ℕ) (a : Account) → k < accountCount →
+      sets s (accountStart + k * accountLength) (accountBytes a) ≡ encode (withAccounts (decode s) (set (decode s .accounts) k a))
   account-put k a h =
-      let l = set (z .accounts) k a in
-      ap (λ (s : List ℕ). sets s (32 + k * 16) (accountBytes a)) (accounts-first z na nr nk)
-      ∙ table-put accountBytes 16 account-wide (headerPart z) ((asksPart z) ++ (receiptsPart z)) (z .accounts) 32 k a (header-long z na nr nk) (omega arith)
-      ∙ sym (accounts-first (withAccounts z l) (length-set (z .accounts) k a ∙ na) nr nk)
+      ap (λ (t : List ℕ). sets t (accountStart + k * accountLength) (accountBytes a)) (e ∙ accounts-first z S)
+      ∙ table-put accountBytes accountLength account-wide (headerPart z) ((asksPart z) ++ (receiptsPart z)) (z .accounts) accountStart k a
+      (header-long z S) (omega (arith, S .accounts))
+      ∙ sym (accounts-first (withAccounts z (set (z .accounts) k a)) (accounts-set z S k a))
 
-  pub ask-put : (k : ℕ) (a : YuanPerTonne) → k < 8 →
-      sets (encode z) (1568 + k * 4) (askBytes a) ≡ encode (withAsks z (set (z .asks) k a))
+  pub ask-put : (k : ℕ) (a : YuanPerTonne) → k < contractCount →
+      sets s (contractStart + k * askLength) (askBytes a) ≡ encode (withAsks (decode s) (set (decode s .asks) k a))
   unfolding encode
-  ask-put k a h = table-put askBytes 4 ask-wide ((headerPart z) ++ (accountsPart z)) (receiptsPart z) (z .asks) 1568 k a (accounts-long z na nr nk) (omega arith)
+  ask-put k a h =
+      ap (λ (t : List ℕ). sets t (contractStart + k * askLength) (askBytes a)) e
+      ∙ table-put askBytes askLength ask-wide ((headerPart z) ++ (accountsPart z)) (receiptsPart z) (z .asks) contractStart k a
+      (accounts-long z S) (omega (arith, S .asks))
 
-  pub receipt-put : (k : ℕ) (r : Receipt) → k < 128 →
-      sets (encode z) (1600 + k * 32) (receiptBytes r) ≡ encode (withReceipts z (set (z .receipts) k r))
+  pub receipt-put : (k : ℕ) (r : Receipt) → k < receiptCount →
+      sets s (receiptStart + k * receiptLength) (receiptBytes r) ≡ encode (withReceipts (decode s) (set (decode s .receipts) k r))
   unfolding encode
   receipt-put k r h =
-      ap (λ (s : List ℕ). sets s (1600 + k * 32) (receiptBytes r)) (sym (append-nil ((headerPart z) ++ (accountsPart z) ++ (asksPart z) ++ (receiptsPart z))))
-      ∙ table-put receiptBytes 32 receipt-wide ((headerPart z) ++ (accountsPart z) ++ (asksPart z)) [] (z .receipts) 1600 k r (asks-long z na nr nk) (omega arith)
-      ∙ append-nil ((headerPart z) ++ (accountsPart z) ++ (asksPart z) ++ tableBytes receiptBytes (set (z .receipts) k r))
+      let before = (headerPart z) ++ (accountsPart z) ++ (asksPart z) in
+      ap (λ (t : List ℕ). sets t (receiptStart + k * receiptLength) (receiptBytes r)) (e ∙ sym (append-nil (before ++ (receiptsPart z))))
+      ∙ table-put receiptBytes receiptLength receipt-wide before [] (z .receipts) receiptStart k r (asks-long z S) (omega (arith, S .receipts))
+      ∙ append-nil (before ++ tableBytes receiptBytes (set (z .receipts) k r))
 
-  pub asks-cleared : sets (encode z) 1568 (replicate 32 0) ≡ encode (withAsks z noAsks)
+  pub asks-cleared : sets s contractStart (replicate (contractCount * askLength) 0) ≡ encode (withAsks (decode s) noAsks)
   unfolding encode
   asks-cleared =
-      let n : length (asksPart z) ≡ 32 = length-tableBytes askBytes 4 ask-wide (z .asks) ∙ ap (λ (k : ℕ). k * 4) nk in
-      sets-middle ((headerPart z) ++ (accountsPart z)) (asksPart z) (receiptsPart z) (replicate 32 0) 1568 (accounts-long z na nr nk) (sym n)
+      let zeros : List ℕ = replicate (contractCount * askLength) 0 in
+      let n : length (asksPart z) ≡ contractCount * askLength =
+      length-tableBytes askBytes askLength ask-wide (z .asks) ∙ ap (λ (k : ℕ). k * askLength) (S .asks) in
+      ap (λ (t : List ℕ). sets t contractStart zeros) e
+      ∙ sets-middle ((headerPart z) ++ (accountsPart z)) (asksPart z) (receiptsPart z) zeros contractStart (accounts-long z S) (sym n)
       ∙ ap (λ (t : List ℕ). (headerPart z) ++ (accountsPart z) ++ t ++ (receiptsPart z)) no-asks
 
-  pub total-put : (t : ℕ) → sets (encode z) 24 (leBytes 8 t) ≡ encode (withTotal z (record { 0 = t }))
+  pub total-put : (t : Fen) → sets s totalAt (leBytes 8 (t .0)) ≡ encode (withTotal (decode s) t)
   unfolding headerBytes leBytes
-  total-put t = ap (λ (s : List ℕ). sets s 24 (leBytes 8 t)) (header-first z na nr nk) ∙ sym (header-first (withTotal z (record { 0 = t })) na nr nk)
+  total-put t =
+      ap (λ (l : List ℕ). sets l totalAt (leBytes 8 (t .0))) (e ∙ header-first z S) ∙ sym (header-first (withTotal z t) (total-set z S t))
 
   pub clock-put : (day : ℕ) (afternoon : Bool) →
-      set (sets (encode z) 6 (leBytes 2 day)) 20 (cond afternoon 1 0) ≡ encode (withClock z day afternoon)
+      set (sets s dayAt (leBytes 2 day)) phaseAt (cond afternoon 1 0) ≡ encode (withClock (decode s) day afternoon)
   unfolding headerBytes leBytes
   clock-put day afternoon =
-      ap (λ (s : List ℕ). set (sets s 6 (leBytes 2 day)) 20 (cond afternoon 1 0)) (header-first z na nr nk)
-      ∙ sym (header-first (withClock z day afternoon) na nr nk)
+      ap (λ (l : List ℕ). set (sets l dayAt (leBytes 2 day)) phaseAt (cond afternoon 1 0)) (e ∙ header-first z S)
+      ∙ sym (header-first (withClock z day afternoon) (clock-set z S day afternoon))

@@ -3,7 +3,7 @@
 use mathlib.Core.Bool.{Bool, true, false, cond, _||_}
 use mathlib.Core.List.{List, [], _∷_, _++_}
 use mathlib.Core.Path.{_≡_, refl, sym, ap, _∙_}
-use Prim.Native.Nat.{ℕ, zero, suc, _+_, _^_, _≤_, _<_}
+use Prim.Native.Nat.{ℕ, zero, suc, _+_, _-_, _^_, _≤_, _<_}
 use native.Mathlib.Decide.{ℕ-discrete}
 use native.Mathlib.Omega.{arith}
 use borrow.Author.Tests.{leb-true, eqb-true, eq-eqb, ne-eqb}
@@ -16,7 +16,7 @@ use mir.Syntax.{w32}
 use mir.Val.{SFits}
 use Rattle.units.specs.declared.YuanPerTonne.{YuanPerTonne}
 use Rattle.units.specs.Payments.{fen}
-use Rattle.units.specs.Ranges.{isBasis, isPrice}
+use Rattle.units.specs.Ranges.{accountCount, receiptCount, contractCount, mostPrice, mostBasis, isBasis, isPrice}
 use Rattle.wire.specs.LittleEndian.{leAt, leBytes, signed32, bits32}
 use Rattle.wire.specs.Laws.Bytes.{Bytes, leAt-leBytes, leBytes-leAt, leAt-lt, bytes-leBytes, bytes-zeros}
 use Rattle.wire.specs.Laws.TwosComplement.{signed-bits, bits-signed, bits-lt}
@@ -27,7 +27,7 @@ use Rattle.zone.specs.Laws.Facts.{bounds}
 use Rattle.zone.specs.Laws.Held.{invoice-bounds}
 use Rattle.zone.specs.Laws.Tests.{both, price-at-most}
 use Rattle.image.specs.Table.{table}
-use Rattle.image.specs.Layout.{headerOk, headerBytes, dayIn, afternoonIn, totalIn, accountIn, accountBytes, askIn, askBytes, recordIn, recordBytes}
+use Rattle.image.specs.Layout.{headerLength, accountLength, askLength, receiptLength, accountStart, contractStart, receiptStart, dayAt, phaseAt, totalAt, headerOk, headerBytes, dayIn, afternoonIn, totalIn, accountIn, accountBytes, askIn, askBytes, recordIn, recordBytes}
 use Rattle.image.specs.Laws.Bytes.{bytes-cons, bytes-append}
 use Rattle.image.specs.Laws.Fields.{record-eq}
 
@@ -67,8 +67,8 @@ unfolding askIn askBytes leAt leBytes
 ask-read a h = λ j. record { 0 = leAt-leBytes 4 (a .0) [] [] h j }
 
 basis-fits : (b : ℤ) → isBasis b ≡ true → SFits w32 b
-basis-fits (pos n) h = record { sfits = omega (arith, leb-true n 50000 (both (leZ (negsuc 49999) (pos n)) _ h .1)) }
-basis-fits (negsuc n) h = record { sfits = omega (arith, leb-true n 49999 (both (leZ (negsuc 49999) (negsuc n)) _ h .0)) }
+basis-fits (pos n) h = record { sfits = omega (arith, leb-true n mostBasis (both (leZ (negsuc (mostBasis - 1)) (pos n)) _ h .1)) }
+basis-fits (negsuc n) h = record { sfits = omega (arith, leb-true n (mostBasis - 1) (both (leZ (negsuc (mostBasis - 1)) (negsuc n)) _ h .0)) }
 
 pub record-read : (r : Record) → recordValid r ≡ true → recordIn (recordBytes r) ≡ r
 unfolding recordIn recordBytes leAt leBytes
@@ -125,16 +125,16 @@ phase-byte false = lit< tt
 pub header-bytes : (day : ℕ) (afternoon : Bool) (total : ℕ) → Bytes (headerBytes day afternoon total)
 unfolding headerBytes
 header-bytes day afternoon total =
-    let s2 = leBytes 2 96 ++ leBytes 2 128 in
-    let s4 = s2 ++ leBytes 2 8 in
+    let s2 = leBytes 2 accountCount ++ leBytes 2 receiptCount in
+    let s4 = s2 ++ leBytes 2 contractCount in
     let s6 = s4 ++ leBytes 2 day in
-    let s8 = s6 ++ leBytes 4 32 in
-    let s12 = s8 ++ leBytes 4 1568 in
-    let s16 = s12 ++ leBytes 4 1600 in
+    let s8 = s6 ++ leBytes 4 accountStart in
+    let s12 = s8 ++ leBytes 4 contractStart in
+    let s16 = s12 ++ leBytes 4 receiptStart in
     let phase : List ℕ = cond afternoon 1 0 ∷ 0 ∷ 0 ∷ 0 ∷ [] in
     let numbers : Bytes s16 =
-    bytes-number s12 4 1600
-    (bytes-number s8 4 1568 (bytes-number s6 4 32 (bytes-number s4 2 day (bytes-number s2 2 8 (bytes-number (leBytes 2 96) 2 128 (bytes-leBytes 2 96)))))) in
+    bytes-number s12 4 receiptStart
+    (bytes-number s8 4 contractStart (bytes-number s6 4 accountStart (bytes-number s4 2 day (bytes-number s2 2 contractCount (bytes-number (leBytes 2 accountCount) 2 receiptCount (bytes-leBytes 2 accountCount)))))) in
     bytes-number (s16 ++ phase) 8 total (bytes-append s16 phase numbers (bytes-cons (cond afternoon 1 0) (0 ∷ 0 ∷ 0 ∷ []) (phase-byte afternoon) (bytes-zeros 3)))
 
 pub account-bytes : (a : Account) → Bytes (accountBytes a)
@@ -145,12 +145,12 @@ pub ask-bytes : (a : YuanPerTonne) → Bytes (askBytes a)
 unfolding askBytes
 ask-bytes a = bytes-leBytes 4 (a .0)
 
--- an ask that is none or a price is at most 200,000
-pub ask-at-most : (a : YuanPerTonne) → askOk a ≡ true → a .0 ≤ 200000
+-- an ask is at most the largest price
+pub ask-at-most : (a : YuanPerTonne) → askOk a ≡ true → a .0 ≤ mostPrice
 unfolding askOk
 ask-at-most a h = go (eqb (a .0) 0) refl h
   where
-    go : (b : Bool) → eqb (a .0) 0 ≡ b → b || isPrice (a .0) ≡ true → a .0 ≤ 200000
+    go : (b : Bool) → eqb (a .0) 0 ≡ b → b || isPrice (a .0) ≡ true → a .0 ≤ mostPrice
     go true e p = omega (arith, eqb-true (a .0) 0 e)
     go false e p = price-at-most (a .0) p
 
@@ -166,26 +166,26 @@ take-table (suc n) s h = take-suc s n 0 h ∙ ap (λ (l : List ℕ). l ++ (getD 
 pub run : (s : List ℕ) (n m : ℕ) → take n s ++ take m (drop n s) ≡ take (n + m) s
 run s n m = sym (take-add n m s)
 
-pub account-written : (b : List ℕ) → Bytes b → length b ≡ 16 → accountBytes (accountIn b) ≡ b
+pub account-written : (b : List ℕ) → Bytes b → length b ≡ accountLength → accountBytes (accountIn b) ≡ b
 unfolding accountBytes accountIn
 account-written b B n =
-    let h : length b ≤ 16 = omega arith in
-    rw (leBytes-leAt 8 b 0 B (omega arith), leBytes-leAt 8 b 8 B (omega arith), run b 8 8) (take-all 16 b h)
+    let h : length b ≤ accountLength = omega arith in
+    rw (leBytes-leAt 8 b 0 B (omega arith), leBytes-leAt 8 b 8 B (omega arith), run b 8 8) (take-all accountLength b h)
 
-pub ask-written : (b : List ℕ) → Bytes b → length b ≡ 4 → askBytes (askIn b) ≡ b
+pub ask-written : (b : List ℕ) → Bytes b → length b ≡ askLength → askBytes (askIn b) ≡ b
 unfolding askBytes askIn
 ask-written b B n =
-    let h : length b ≤ 4 = omega arith in
-    rw (leBytes-leAt 4 b 0 B (omega arith)) (take-all 4 b h)
+    let h : length b ≤ askLength = omega arith in
+    rw (leBytes-leAt 4 b 0 B (omega arith)) (take-all askLength b h)
 
-pub record-written : (b : List ℕ) → Bytes b → length b ≡ 32 → recordBytes (recordIn b) ≡ b
+pub record-written : (b : List ℕ) → Bytes b → length b ≡ receiptLength → recordBytes (recordIn b) ≡ b
 unfolding recordBytes recordIn table
 record-written b B n =
     let six : getD b 0 0 ∷ getD b 1 0 ∷ getD b 2 0 ∷ getD b 3 0 ∷ getD b 4 0 ∷ getD b 5 0 ∷ [] ≡ take 6 b = sym (take-table 6 b (omega arith)) in
-    let h : length b ≤ 32 = omega arith in
+    let h : length b ≤ receiptLength = omega arith in
     rw (bits-signed (leAt 4 b 12) (leAt-lt 4 b 12 B), leBytes-leAt 2 b 6 B (omega arith), leBytes-leAt 4 b 8 B (omega arith), leBytes-leAt 4 b 12 B (omega arith), leBytes-leAt 4 b 16 B (omega arith), leBytes-leAt 4 b 20 B (omega arith), leBytes-leAt 4 b 24 B (omega arith), leBytes-leAt 4 b 28 B (omega arith))
     (ap (λ (l : List ℕ). l ++ take 2 (drop 6 b) ++ take 4 (drop 8 b) ++ take 4 (drop 12 b) ++ take 4 (drop 16 b) ++ take 4 (drop 20 b) ++ take 4 (drop 24 b) ++ take 4 (drop 28 b)) six
-    ∙ rw (run b 6 2, run b 8 4, run b 12 4, run b 16 4, run b 20 4, run b 24 4, run b 28 4) (take-all 32 b h))
+    ∙ rw (run b 6 2, run b 8 4, run b 12 4, run b 16 4, run b 20 4, run b 24 4, run b 28 4) (take-all receiptLength b h))
 
 phase-is : (p : ℕ) → p ≤ 1 → cond (eqb p 1) 1 0 ≡ p
 phase-is p h = go (ℕ-discrete p 1)
@@ -196,13 +196,13 @@ phase-is p h = go (ℕ-discrete p 1)
 
 -- the header's test, number by number
 record HeaderIn (s : List ℕ) : Type 0 where
-  accounts : leAt 2 s 0 ≡ 96
-  receipts : leAt 2 s 2 ≡ 128
-  contracts : leAt 2 s 4 ≡ 8
-  accounts-at : leAt 4 s 8 ≡ 32
-  contracts-at : leAt 4 s 12 ≡ 1568
-  receipts-at : leAt 4 s 16 ≡ 1600
-  phase : getD s 20 0 ≤ 1
+  accounts : leAt 2 s 0 ≡ accountCount
+  receipts : leAt 2 s 2 ≡ receiptCount
+  contracts : leAt 2 s 4 ≡ contractCount
+  accounts-at : leAt 4 s 8 ≡ accountStart
+  contracts-at : leAt 4 s 12 ≡ contractStart
+  receipts-at : leAt 4 s 16 ≡ receiptStart
+  phase : getD s phaseAt 0 ≤ 1
   zero-1 : getD s 21 0 ≡ 0
   zero-2 : getD s 22 0 ≡ 0
   zero-3 : getD s 23 0 ≡ 0
@@ -232,31 +232,31 @@ header-in s h =
       zero-3 = eqb-true _ _ (t1 .1);
     }
 
-pub header-written : (s : List ℕ) → Bytes s → 32 ≤ length s → headerOk s ≡ true → headerBytes (dayIn s) (afternoonIn s) (totalIn s) ≡ take 32 s
+pub header-written : (s : List ℕ) → Bytes s → headerLength ≤ length s → headerOk s ≡ true → headerBytes (dayIn s) (afternoonIn s) (totalIn s) ≡ take headerLength s
 unfolding headerBytes table
 header-written s B n ok =
     let H = header-in s ok in
-    let num : (w at v : ℕ) → at + w ≤ 32 → leAt w s at ≡ v → leBytes w v ≡ take w (drop at s) =
+    let num : (w at v : ℕ) → at + w ≤ headerLength → leAt w s at ≡ v → leBytes w v ≡ take w (drop at s) =
     λ w at v h e. ap (leBytes w) (sym e) ∙ leBytes-leAt w s at B (omega arith) in
-    let four : cond (afternoonIn s) 1 0 ∷ 0 ∷ 0 ∷ 0 ∷ [] ≡ take 4 (drop 20 s) =
-    rw (take-table 4 (drop 20 s) (rw length-drop (omega arith)), getD-drop 20 s 0 0, getD-drop 20 s 1 0, getD-drop 20 s 2 0, getD-drop 20 s 3 0, H .zero-1, H .zero-2, H .zero-3)
-    (ap (λ (p : ℕ). p ∷ 0 ∷ 0 ∷ 0 ∷ []) (phase-is (getD s 20 0) (H .phase))) in
+    let four : cond (afternoonIn s) 1 0 ∷ 0 ∷ 0 ∷ 0 ∷ [] ≡ take 4 (drop phaseAt s) =
+    rw (take-table 4 (drop phaseAt s) (rw length-drop (omega arith)), getD-drop phaseAt s 0 0, getD-drop phaseAt s 1 0, getD-drop phaseAt s 2 0, getD-drop phaseAt s 3 0, H .zero-1, H .zero-2, H .zero-3)
+    (ap (λ (p : ℕ). p ∷ 0 ∷ 0 ∷ 0 ∷ []) (phase-is (getD s phaseAt 0) (H .phase))) in
     rw (
-      num 2 0 96 (lit≤ tt) (H .accounts),
-      num 2 2 128 (lit≤ tt) (H .receipts),
-      num 2 4 8 (lit≤ tt) (H .contracts),
-      num 2 6 (dayIn s) (lit≤ tt) refl,
-      num 4 8 32 (lit≤ tt) (H .accounts-at),
-      num 4 12 1568 (lit≤ tt) (H .contracts-at),
-      num 4 16 1600 (lit≤ tt) (H .receipts-at),
+      num 2 0 accountCount (lit≤ tt) (H .accounts),
+      num 2 2 receiptCount (lit≤ tt) (H .receipts),
+      num 2 4 contractCount (lit≤ tt) (H .contracts),
+      num 2 dayAt (dayIn s) (lit≤ tt) refl,
+      num 4 8 accountStart (lit≤ tt) (H .accounts-at),
+      num 4 12 contractStart (lit≤ tt) (H .contracts-at),
+      num 4 16 receiptStart (lit≤ tt) (H .receipts-at),
       four,
-      num 8 24 (totalIn s) (lit≤ tt) refl,
+      num 8 totalAt (totalIn s) (lit≤ tt) refl,
       run s 2 2,
       run s 4 2,
-      run s 6 2,
+      run s dayAt 2,
       run s 8 4,
       run s 12 4,
       run s 16 4,
-      run s 20 4,
-      run s 24 8,
+      run s phaseAt 4,
+      run s totalAt 8,
     )

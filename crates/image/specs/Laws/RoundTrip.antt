@@ -3,47 +3,35 @@
 use mathlib.Core.Bool.{true}
 use mathlib.Core.List.{List, [], _++_, map, append-assoc, append-nil}
 use mathlib.Core.Path.{_≡_, refl, sym, ap, _∙_}
-use Prim.Native.Nat.{ℕ, suc, _+_, _*_, _^_, _≤_, _<_}
+use Prim.Native.Nat.{ℕ, suc, _+_, _*_, _≤_, _<_}
 use native.Mathlib.Nat.{suc-mul, mul-le-mul-right}
 use native.Mathlib.Omega.{arith}
 use borrow.Author.Tests.{eqb-true, eq-eqb}
 use lib.Dec.{lit≤}
 use lib.ListN.{length, take, drop, getD, length-append, length-take, length-drop, length-map, List·getD-map}
 use lib.Seq.{take-all}
-use Rattle.units.specs.declared.YuanPerTonne.{YuanPerTonne}
 use Rattle.units.specs.Payments.{fen}
+use Rattle.units.specs.Ranges.{accountCount, receiptCount, contractCount, mostPrice}
 use Rattle.wire.specs.Laws.Bytes.{Bytes}
 use Rattle.zone.specs.declared.Receipt.{Receipt}
 use Rattle.zone.specs.declared.Record.{Record}
 use Rattle.zone.specs.declared.Zone.{Zone}
 use Rattle.zone.specs.Record.{recordOf, receiptOf}
-use Rattle.zone.specs.Held.{allMoney}
-use Rattle.zone.specs.Valid.{all, askOk, recordValid, booksOk, validZone, freshZone, nothing, noReceipt}
+use Rattle.zone.specs.Valid.{askOk, recordValid, booksOk, validZone, Sized, freshZone, emptyAccount, noReceipt, noAsk}
 use Rattle.zone.specs.Laws.Back.{receipt-back, record-back as record-same}
 use Rattle.zone.specs.Laws.Held.{money-le}
 use Rattle.zone.specs.Laws.Tests.{both, join}
 use Rattle.zone.specs.Laws.Valid.{all-at, zone-in, books-in, fresh-valid as fresh-zone-valid}
 use Rattle.image.specs.Table.{table, tableBytes, recordAt}
-use Rattle.image.specs.Layout.{headerOk, headerBytes, dayIn, afternoonIn, totalIn, accountIn, accountBytes, accountsIn, askIn, askBytes, asksIn, recordIn, recordBytes, recordsIn, receiptsIn, receiptBytes}
-use Rattle.image.specs.Image.{validImage, decode, encode}
+use Rattle.image.specs.Layout.{headerLength, accountLength, askLength, receiptLength, accountStart, contractStart, receiptStart, imageLength, accountRun, askRun, receiptRun, headerOk, headerBytes, dayIn, afternoonIn, totalIn, accountIn, accountBytes, accountsIn, askIn, askBytes, asksIn, recordIn, recordBytes, recordsIn, receiptsIn, receiptBytes}
+use Rattle.image.specs.Image.{validImage, decode, encode, Encoded, Fits}
 use Rattle.image.specs.Laws.Table.{length-table, getD-table, is-table, table-cong, map-table, tableBytes-table, length-tableBytes, record-back}
 use Rattle.image.specs.Laws.Bytes.{bytes-append, bytes-part, bytes-table}
 use Rattle.image.specs.Laws.Layout.{header-wide, account-wide, ask-wide, receipt-wide, length-accounts, length-asks, length-receipts}
 use Rattle.image.specs.Laws.Records.{header-ok, day-read, afternoon-read, total-read, account-read, ask-read, record-read, header-bytes, account-bytes, ask-bytes, ask-at-most, record-bytes, run, account-written, ask-written, record-written, header-written}
 use Rattle.image.specs.Laws.Books.{booksOk-map}
 
-abbrev none : YuanPerTonne
-none = record { 0 = 0 }
-
 -- ── A zone's bytes ─────────────────────────────────────────────────────────────────────────────
-
--- What a zone must be to be had back from its bytes. A valid zone is that, and so is one whose money is being moved.
-pub record Fits (z : Zone) : Type 0 where
-  pub day : z .day ≤ 30000
-  pub asks : all askOk (z .asks) ≡ true
-  pub records : all (λ r. recordValid (recordOf r)) (z .receipts) ≡ true
-  pub money : allMoney (z .accounts) ≤ 10 ^ 15
-  pub total : z .total .0 ≤ 10 ^ 15
 
 pub valid-fits : (z : Zone) → validZone z ≡ true → Fits z
 valid-fits z valid =
@@ -63,19 +51,19 @@ asksPart z = tableBytes askBytes (z .asks)
 abbrev pub receiptsPart : Zone → List ℕ
 receiptsPart z = tableBytes receiptBytes (z .receipts)
 
-module _ (z : Zone) (na : length (z .accounts) ≡ 96) (nr : length (z .receipts) ≡ 128) (nk : length (z .asks) ≡ 8) where
-  pub header-long : length (headerPart z) ≡ 32
+module _ (z : Zone) (S : Sized z) where
+  pub header-long : length (headerPart z) ≡ headerLength
   header-long = header-wide (z .day) (z .afternoon) (z .total .0)
 
-  pub accounts-long : length ((headerPart z) ++ (accountsPart z)) ≡ 1568
-  accounts-long = rw (length-append, header-long, length-tableBytes accountBytes 16 account-wide (z .accounts), na)
+  pub accounts-long : length ((headerPart z) ++ (accountsPart z)) ≡ contractStart
+  accounts-long = rw (length-append, header-long, length-tableBytes accountBytes accountLength account-wide (z .accounts), S .accounts)
 
-  pub asks-long : length ((headerPart z) ++ (accountsPart z) ++ (asksPart z)) ≡ 1600
-  asks-long = rw (length-append, accounts-long, length-tableBytes askBytes 4 ask-wide (z .asks), nk)
+  pub asks-long : length ((headerPart z) ++ (accountsPart z) ++ (asksPart z)) ≡ receiptStart
+  asks-long = rw (length-append, accounts-long, length-tableBytes askBytes askLength ask-wide (z .asks), S .asks)
 
-  pub length-encode : length (encode z) ≡ 5696
+  pub length-encode : length (encode z) ≡ imageLength
   unfolding encode
-  length-encode = rw (length-append, asks-long, length-tableBytes receiptBytes 32 receipt-wide (z .receipts), nr)
+  length-encode = rw (length-append, asks-long, length-tableBytes receiptBytes receiptLength receipt-wide (z .receipts), S .receipts)
 
   -- the header before the rest, and the accounts before the asks
   pub header-first : encode z ≡ (headerPart z) ++ ((accountsPart z) ++ ((asksPart z) ++ (receiptsPart z)))
@@ -87,26 +75,26 @@ module _ (z : Zone) (na : length (z .accounts) ≡ 96) (nr : length (z .receipts
   accounts-first = append-assoc ((headerPart z) ++ (accountsPart z)) (asksPart z) (receiptsPart z)
 
   -- record k of each table
-  account-at : (k : ℕ) → k < 96 → recordAt 32 16 (encode z) k ≡ accountBytes (getD (z .accounts) k nothing)
+  account-at : (k : ℕ) → k < accountCount → accountRun (encode z) k ≡ accountBytes (getD (z .accounts) k emptyAccount)
   account-at k h =
-      rw accounts-first (record-back accountBytes 16 account-wide nothing (headerPart z) ((asksPart z) ++ (receiptsPart z)) (z .accounts) 32 k header-long (omega arith))
+      rw accounts-first (record-back accountBytes accountLength account-wide emptyAccount (headerPart z) ((asksPart z) ++ (receiptsPart z)) (z .accounts) accountStart k header-long (omega (arith, S .accounts)))
 
-  ask-at : (k : ℕ) → k < 8 → recordAt 1568 4 (encode z) k ≡ askBytes (getD (z .asks) k none)
+  ask-at : (k : ℕ) → k < contractCount → askRun (encode z) k ≡ askBytes (getD (z .asks) k noAsk)
   unfolding encode
-  ask-at k h = record-back askBytes 4 ask-wide none ((headerPart z) ++ (accountsPart z)) (receiptsPart z) (z .asks) 1568 k accounts-long (omega arith)
+  ask-at k h = record-back askBytes askLength ask-wide noAsk ((headerPart z) ++ (accountsPart z)) (receiptsPart z) (z .asks) contractStart k accounts-long (omega (arith, S .asks))
 
-  receipt-at : (k : ℕ) → k < 128 → recordAt 1600 32 (encode z) k ≡ recordBytes (recordOf (getD (z .receipts) k noReceipt))
+  receipt-at : (k : ℕ) → k < receiptCount → receiptRun (encode z) k ≡ recordBytes (recordOf (getD (z .receipts) k noReceipt))
   unfolding encode receiptBytes
   receipt-at k h =
-      let e = record-back receiptBytes 32 receipt-wide noReceipt ((headerPart z) ++ (accountsPart z) ++ (asksPart z)) [] (z .receipts) 1600 k asks-long (omega arith) in
+      let e = record-back receiptBytes receiptLength receipt-wide noReceipt ((headerPart z) ++ (accountsPart z) ++ (asksPart z)) [] (z .receipts) receiptStart k asks-long (omega (arith, S .receipts)) in
       rw append-nil at e
 
   module _ (F : Fits z) where
-    record-valid : (k : ℕ) → k < 128 → recordValid (recordOf (getD (z .receipts) k noReceipt)) ≡ true
-    record-valid k h = all-at (λ (r : Receipt). recordValid (recordOf r)) (z .receipts) k noReceipt (F .records) (omega arith)
+    record-valid : (k : ℕ) → k < receiptCount → recordValid (recordOf (getD (z .receipts) k noReceipt)) ≡ true
+    record-valid k h = all-at (λ (r : Receipt). recordValid (recordOf r)) (z .receipts) k noReceipt (F .records) (omega (arith, S .receipts))
 
     -- the record of receipt k is read back
-    pub record-here : (k : ℕ) → k < 128 → recordIn (recordAt 1600 32 (encode z) k) ≡ recordOf (getD (z .receipts) k noReceipt)
+    pub record-here : (k : ℕ) → k < receiptCount → recordIn (receiptRun (encode z) k) ≡ recordOf (getD (z .receipts) k noReceipt)
     record-here k h = ap recordIn (receipt-at k h) ∙ record-read (recordOf (getD (z .receipts) k noReceipt)) (record-valid k h)
 
     -- each table is read back
@@ -114,34 +102,34 @@ module _ (z : Zone) (na : length (z .accounts) ≡ 96) (nr : length (z .receipts
     unfolding accountsIn
     accounts-back =
         sym
-        (is-table nothing (z .accounts) 96 (λ (k : ℕ). accountIn (recordAt 32 16 (encode z) k)) na
+        (is-table emptyAccount (z .accounts) accountCount (λ (k : ℕ). accountIn (accountRun (encode z) k)) (S .accounts)
         (λ k h. let m = money-le (z .accounts) k in
         sym
         (ap accountIn (account-at k h)
-        ∙ account-read (getD (z .accounts) k nothing) (omega (arith, F .money)) (omega (arith, F .money)))))
+        ∙ account-read (getD (z .accounts) k emptyAccount) (omega (arith, F .money)) (omega (arith, F .money)))))
 
     asks-back : asksIn (encode z) ≡ z .asks
     unfolding asksIn
     asks-back =
         sym
-        (is-table none (z .asks) 8 (λ (k : ℕ). askIn (recordAt 1568 4 (encode z) k)) nk
-        (λ k h. let a = getD (z .asks) k none in
-        let p : a .0 ≤ 200000 = ask-at-most a (all-at askOk (z .asks) k none (F .asks) (omega arith)) in
+        (is-table noAsk (z .asks) contractCount (λ (k : ℕ). askIn (askRun (encode z) k)) (S .asks)
+        (λ k h. let a = getD (z .asks) k noAsk in
+        let p : a .0 ≤ mostPrice = ask-at-most a (all-at askOk (z .asks) k noAsk (F .asks) (omega (arith, S .asks))) in
         sym (ap askIn (ask-at k h) ∙ ask-read a (omega arith))))
 
     records-back : recordsIn (encode z) ≡ map recordOf (z .receipts)
     unfolding recordsIn
     records-back =
         sym
-        (is-table (recordOf noReceipt) (map recordOf (z .receipts)) 128 (λ (k : ℕ). recordIn (recordAt 1600 32 (encode z) k))
-        (length-map (z .receipts) recordOf ∙ nr)
+        (is-table (recordOf noReceipt) (map recordOf (z .receipts)) receiptCount (λ (k : ℕ). recordIn (receiptRun (encode z) k))
+        (length-map (z .receipts) recordOf ∙ S .receipts)
         (λ k h. List·getD-map recordOf (z .receipts) k noReceipt ∙ sym (record-here k h)))
 
     receipts-back : receiptsIn (encode z) ≡ z .receipts
     unfolding receiptsIn
     receipts-back =
         sym
-        (is-table noReceipt (z .receipts) 128 (λ (k : ℕ). receiptOf (recordIn (recordAt 1600 32 (encode z) k))) nr
+        (is-table noReceipt (z .receipts) receiptCount (λ (k : ℕ). receiptOf (recordIn (receiptRun (encode z) k))) (S .receipts)
         (λ k h. sym (ap receiptOf (record-here k h) ∙ receipt-back (getD (z .receipts) k noReceipt))))
 
     day-back : dayIn (encode z) ≡ z .day
@@ -192,51 +180,47 @@ module _ (z : Zone) (na : length (z .accounts) ≡ 96) (nr : length (z .receipts
     bytes-encode =
         bytes-append ((headerPart z) ++ (accountsPart z) ++ (asksPart z)) (receiptsPart z)
         (bytes-append ((headerPart z) ++ (accountsPart z)) (asksPart z)
-        (bytes-append (headerPart z) (accountsPart z) (header-bytes (z .day) (z .afternoon) (z .total .0)) (bytes-table accountBytes (z .accounts) nothing (λ k h. account-bytes (getD (z .accounts) k nothing))))
-        (bytes-table askBytes (z .asks) none (λ k h. ask-bytes (getD (z .asks) k none))))
-        (bytes-table receiptBytes (z .receipts) noReceipt (λ k h. record-bytes (recordOf (getD (z .receipts) k noReceipt)) (record-valid fits k (omega arith))))
+        (bytes-append (headerPart z) (accountsPart z) (header-bytes (z .day) (z .afternoon) (z .total .0)) (bytes-table accountBytes (z .accounts) emptyAccount (λ k h. account-bytes (getD (z .accounts) k emptyAccount))))
+        (bytes-table askBytes (z .asks) noAsk (λ k h. ask-bytes (getD (z .asks) k noAsk))))
+        (bytes-table receiptBytes (z .receipts) noReceipt (λ k h. record-bytes (recordOf (getD (z .receipts) k noReceipt)) (record-valid fits k (omega (arith, S .receipts)))))
 
--- a fresh image is valid
+-- a fresh zone has tables of their lengths, and its image is valid
+pub fresh-sized : Sized freshZone
+unfolding freshZone
+fresh-sized = record { accounts = refl; receipts = refl; asks = refl }
+
 pub fresh-valid : validImage (encode freshZone) ≡ true
 unfolding freshZone
-fresh-valid = valid-encode freshZone refl refl refl fresh-zone-valid
+fresh-valid = valid-encode freshZone fresh-sized fresh-zone-valid
 
 -- ── The zone of bytes ──────────────────────────────────────────────────────────────────────────
 
 -- the lengths of its tables, whatever the bytes
-pub decode-accounts : (s : List ℕ) → length (decode s .accounts) ≡ 96
+pub decode-sized : (s : List ℕ) → Sized (decode s)
 unfolding decode
-decode-accounts s = length-accounts s
-
-pub decode-receipts : (s : List ℕ) → length (decode s .receipts) ≡ 128
-unfolding decode
-decode-receipts s = length-receipts s
-
-pub decode-asks : (s : List ℕ) → length (decode s .asks) ≡ 8
-unfolding decode
-decode-asks s = length-asks s
+decode-sized s = record { accounts = length-accounts s; receipts = length-receipts s; asks = length-asks s }
 
 -- what stands in place k of each
 module _ (s : List ℕ) (k : ℕ) where
-  pub account-in-place : k < 96 → accountIn (recordAt 32 16 s k) ≡ getD (decode s .accounts) k nothing
+  pub account-in-place : k < accountCount → accountIn (accountRun s k) ≡ getD (decode s .accounts) k emptyAccount
   unfolding decode accountsIn
-  account-in-place h = sym (getD-table 96 (λ (i : ℕ). accountIn (recordAt 32 16 s i)) k nothing h)
+  account-in-place h = sym (getD-table accountCount (λ (i : ℕ). accountIn (accountRun s i)) k emptyAccount h)
 
-  pub ask-in-place : k < 8 → askIn (recordAt 1568 4 s k) ≡ getD (decode s .asks) k none
+  pub ask-in-place : k < contractCount → askIn (askRun s k) ≡ getD (decode s .asks) k noAsk
   unfolding decode asksIn
-  ask-in-place h = sym (getD-table 8 (λ (i : ℕ). askIn (recordAt 1568 4 s i)) k none h)
+  ask-in-place h = sym (getD-table contractCount (λ (i : ℕ). askIn (askRun s i)) k noAsk h)
 
-  pub receipt-in-place : k < 128 → receiptOf (recordIn (recordAt 1600 32 s k)) ≡ getD (decode s .receipts) k noReceipt
+  pub receipt-in-place : k < receiptCount → receiptOf (recordIn (receiptRun s k)) ≡ getD (decode s .receipts) k noReceipt
   unfolding decode receiptsIn
-  receipt-in-place h = sym (getD-table 128 (λ (i : ℕ). receiptOf (recordIn (recordAt 1600 32 s i))) k noReceipt h)
+  receipt-in-place h = sym (getD-table receiptCount (λ (i : ℕ). receiptOf (recordIn (receiptRun s i))) k noReceipt h)
 
 -- the bytes of a zone are as many as an image has
-pub same-long : (s : List ℕ) → s ≡ encode (decode s) → length s ≡ 5696
-same-long s e = ap length e ∙ length-encode (decode s) (decode-accounts s) (decode-receipts s) (decode-asks s)
+pub same-long : (s : List ℕ) → Encoded s → length s ≡ imageLength
+same-long s e = ap length e ∙ length-encode (decode s) (decode-sized s)
 
 -- a valid image as facts
 record ImageIn (s : List ℕ) : Type 0 where
-  long : length s ≡ 5696
+  long : length s ≡ imageLength
   header-is : headerOk s ≡ true
   books : booksOk (λ r. r) (dayIn s) (asksIn s) (accountsIn s) (recordsIn s) (fen (totalIn s)) ≡ true
 
@@ -248,23 +232,23 @@ image-in s h =
     record { long = eqb-true _ _ (t2 .0); header-is = t2 .1; books = t1 .1 }
 
 module _ (s : List ℕ) (ok : validImage s ≡ true) where
-  pub valid-long : length s ≡ 5696
+  pub valid-long : length s ≡ imageLength
   valid-long = image-in s ok .long
 
-  record-ok : (k : ℕ) → k < 128 → recordValid (recordIn (recordAt 1600 32 s k)) ≡ true
+  record-ok : (k : ℕ) → k < receiptCount → recordValid (recordIn (receiptRun s k)) ≡ true
   unfolding recordsIn
   record-ok k h =
-      let f : ℕ → Record = λ i. recordIn (recordAt 1600 32 s i) in
+      let f : ℕ → Record = λ i. recordIn (receiptRun s i) in
       let all-ok = books-in (λ r. r) _ _ _ _ _ (image-in s ok .books) .records in
-      let e = all-at recordValid (table 128 f) k (recordOf noReceipt) all-ok (rw (length-table 128 f) h) in
-      rw (getD-table 128 f k (recordOf noReceipt) h) at e
+      let e = all-at recordValid (table receiptCount f) k (recordOf noReceipt) all-ok (rw (length-table receiptCount f) h) in
+      rw (getD-table receiptCount f k (recordOf noReceipt) h) at e
 
   -- the records of its receipts are those in the bytes
   records-same : map recordOf (receiptsIn s) ≡ recordsIn s
   unfolding receiptsIn recordsIn
   records-same =
-      map-table recordOf 128 (λ (k : ℕ). receiptOf (recordIn (recordAt 1600 32 s k)))
-      ∙ table-cong 128 _ _ (λ k h. record-same (recordIn (recordAt 1600 32 s k)) (record-ok k h))
+      map-table recordOf receiptCount (λ (k : ℕ). receiptOf (recordIn (receiptRun s k)))
+      ∙ table-cong receiptCount _ _ (λ k h. record-same (recordIn (receiptRun s k)) (record-ok k h))
 
   -- the zone of a valid image is valid
   pub valid-decode : validZone (decode s) ≡ true
@@ -272,36 +256,36 @@ module _ (s : List ℕ) (ok : validImage s ≡ true) where
   valid-decode = rw (booksOk-map recordOf, records-same) (image-in s ok .books)
 
   module _ (bytes : Bytes s) where
-    part-long : (at size n k : ℕ) → at + n * size ≤ 5696 → k < n → length (recordAt at size s k) ≡ size
+    part-long : (at size n k : ℕ) → at + n * size ≤ imageLength → k < n → length (recordAt at size s k) ≡ size
     part-long at size n k h p =
         let m : suc k * size ≤ n * size = mul-le-mul-right size p in
         let m′ : k * size + size ≤ n * size = rw suc-mul at m in
         rw (length-take, length-drop) (omega (arith, image-in s ok .long))
 
-    accounts-written : tableBytes accountBytes (accountsIn s) ≡ take 1536 (drop 32 s)
+    accounts-written : tableBytes accountBytes (accountsIn s) ≡ take (accountCount * accountLength) (drop accountStart s)
     unfolding accountsIn
     accounts-written =
-        tableBytes-table accountBytes (λ (k : ℕ). accountIn (recordAt 32 16 s k)) 32 16 s 96
-        (λ k h. account-written (recordAt 32 16 s k) (bytes-part 16 (32 + k * 16) s bytes) (part-long 32 16 96 k (lit≤ tt) h))
+        tableBytes-table accountBytes (λ (k : ℕ). accountIn (accountRun s k)) accountStart accountLength s accountCount
+        (λ k h. account-written (accountRun s k) (bytes-part accountLength (accountStart + k * accountLength) s bytes) (part-long accountStart accountLength accountCount k (lit≤ tt) h))
 
-    asks-written : tableBytes askBytes (asksIn s) ≡ take 32 (drop 1568 s)
+    asks-written : tableBytes askBytes (asksIn s) ≡ take (contractCount * askLength) (drop contractStart s)
     unfolding asksIn
     asks-written =
-        tableBytes-table askBytes (λ (k : ℕ). askIn (recordAt 1568 4 s k)) 1568 4 s 8
-        (λ k h. ask-written (recordAt 1568 4 s k) (bytes-part 4 (1568 + k * 4) s bytes) (part-long 1568 4 8 k (lit≤ tt) h))
+        tableBytes-table askBytes (λ (k : ℕ). askIn (askRun s k)) contractStart askLength s contractCount
+        (λ k h. ask-written (askRun s k) (bytes-part askLength (contractStart + k * askLength) s bytes) (part-long contractStart askLength contractCount k (lit≤ tt) h))
 
-    receipts-written : tableBytes receiptBytes (receiptsIn s) ≡ take 4096 (drop 1600 s)
+    receipts-written : tableBytes receiptBytes (receiptsIn s) ≡ take (receiptCount * receiptLength) (drop receiptStart s)
     unfolding receiptsIn receiptBytes
     receipts-written =
-        tableBytes-table receiptBytes (λ (k : ℕ). receiptOf (recordIn (recordAt 1600 32 s k))) 1600 32 s 128
-        (λ k h. ap recordBytes (record-same (recordIn (recordAt 1600 32 s k)) (record-ok k h))
-        ∙ record-written (recordAt 1600 32 s k) (bytes-part 32 (1600 + k * 32) s bytes) (part-long 1600 32 128 k (lit≤ tt) h))
+        tableBytes-table receiptBytes (λ (k : ℕ). receiptOf (recordIn (receiptRun s k))) receiptStart receiptLength s receiptCount
+        (λ k h. ap recordBytes (record-same (recordIn (receiptRun s k)) (record-ok k h))
+        ∙ record-written (receiptRun s k) (bytes-part receiptLength (receiptStart + k * receiptLength) s bytes) (part-long receiptStart receiptLength receiptCount k (lit≤ tt) h))
 
     -- valid bytes are had back from their zone
     pub encode-decode : encode (decode s) ≡ s
     unfolding encode decode
     encode-decode =
         let I = image-in s ok in
-        let n : length s ≤ 5696 = omega (arith, I .long) in
-        rw (header-written s bytes (omega (arith, I .long)) (I .header-is), accounts-written, asks-written, receipts-written, run s 32 1536, run s 1568 32, run s 1600 4096)
-        (take-all 5696 s n)
+        let n : length s ≤ imageLength = omega (arith, I .long) in
+        rw (header-written s bytes (omega (arith, I .long)) (I .header-is), accounts-written, asks-written, receipts-written, run s accountStart (accountCount * accountLength), run s contractStart (contractCount * askLength), run s receiptStart (receiptCount * receiptLength))
+        (take-all imageLength s n)

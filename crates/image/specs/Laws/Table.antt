@@ -4,7 +4,7 @@ use mathlib.Core.Path.{_≡_, refl, sym, ap, _∙_}
 use mathlib.Core.Bool.{Bool, true, false}
 use mathlib.Core.Logic.{_≢_}
 use mathlib.Core.List.{List, [], _∷_, _++_, map, append-nil, append-assoc}
-use Prim.Native.Nat.{ℕ, zero, suc, _+_, _*_, _≤_, _<_}
+use Prim.Native.Nat.{ℕ, zero, suc, _+_, _-_, _*_, _≤_, _<_}
 use native.Mathlib.Nat.{le-of-lt, suc-mul, zero-mul, add-comm, mul-le-mul-right}
 use native.Mathlib.Numerals.{add-one}
 use native.Mathlib.Decide.{ℕ-discrete}
@@ -84,6 +84,16 @@ pub length-of-map : (X Y : Type 0) (f : X → Y) (l : List X) (n : ℕ) → leng
 length-of-map X Y f l n e = sym (length-map l f) ∙ e
 
 -- ── A part of a list ───────────────────────────────────────────────────────────────────────────
+
+-- n elements from a place on, as a slice from there to n further is
+pub part-wide : (at n : ℕ) (s : List ℕ) → take (at + n - at) (drop at s) ≡ take n (drop at s)
+part-wide at n s = let e : at + n - at ≡ n = omega arith in ap (λ (m : ℕ). take m (drop at s)) e
+
+-- byte o of record k of a table
+pub byte-in : (at size k o : ℕ) (s : List ℕ) → o < size → getD (recordAt at size s k) o 0 ≡ getD s (at + o + k * size) 0
+byte-in at size k o s h =
+    let e : at + k * size + o ≡ at + o + k * size = omega arith in
+    getD-take size (drop (at + k * size) s) o 0 h ∙ getD-drop (at + k * size) s o 0 ∙ ap (λ (i : ℕ). getD s i 0) e
 
 -- a number in a part of a list
 pub leAt-part : (w : ℕ) (s : List ℕ) (a o n : ℕ) → o + w ≤ n → leAt w (take n (drop a s)) o ≡ leAt w s (a + o)

@@ -1,5 +1,5 @@
 -- The laws of bytes in a list: little-endian numbers, each law once over the width, and puts. Assumes nothing.
-use mathlib.Core.Path.{_≡_, refl, ap, _∙_}
+use mathlib.Core.Path.{_≡_, refl, sym, ap, _∙_}
 use mathlib.Core.Logic.{_≢_}
 use mathlib.Core.List.{List, [], _∷_, _++_, append-assoc}
 use Prim.Native.Nat.{ℕ, zero, suc, _+_, _*_, _/_, _%_, _^_, _≤_, _<_}
@@ -68,6 +68,11 @@ sets-append s at [] q = rw add-zero
 sets-append s at (x ∷ p) q =
     let e : suc at + length p ≡ at + suc (length p) = omega arith in
     rw (sets-append (set s at x) (suc at) p q, e)
+
+-- t is s with a run p of n bytes put, u is t with q put behind it: u is s with both put as one run
+pub run-behind : (s : List ℕ) {t u : List ℕ} (at : ℕ) (p q : List ℕ) (n : ℕ) → length p ≡ n → t ≡ sets s at p → u ≡ sets t (at + n) q → u ≡ sets s at (p ++ q)
+run-behind s at p q n e h g =
+    g ∙ ap (λ (l : List ℕ). sets l (at + n) q) h ∙ sym (sets-append s at p q ∙ ap (λ (k : ℕ). sets (sets s at p) (at + k) q) e)
 
 -- the m low bytes put, and then the n above them, are one put of m + n bytes
 pub sets-le : (m n v at : ℕ) (s : List ℕ) →

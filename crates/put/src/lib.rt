@@ -1,0 +1,115 @@
+// A part of a zone, put where it stands in the image.
+ghost use mathlib.Core.Path.{_≡_};
+ghost use Prim.Native.Nat.{_+_, _%_, _≤_, _<_};
+ghost use lib.ListN.{length, take, set};
+ghost use lib.Seq.{sets};
+ghost use Rattle.units.specs.Ranges.{accountCount, receiptCount, contractCount};
+ghost use Rattle.zone.specs.Valid.{noAsks};
+ghost use Rattle.zone.specs.Parts.{withClock, withAsks, withAccounts, withReceipts, withTotal};
+ghost use Rattle.image.specs.Layout.{accountLength, receiptLength, recordBytes, accountBytes};
+ghost use Rattle.image.specs.Image.{decode, encode, Encoded};
+use image::ACCOUNT_LENGTH;
+use image::ACCOUNT_START;
+use image::ASK_LENGTH;
+use image::CONTRACT_START;
+use image::DAY_AT;
+use image::PHASE_AT;
+use image::RECEIPT_LENGTH;
+use image::RECEIPT_START;
+use image::TOTAL_AT;
+use units::CONTRACTS;
+use units::Fen;
+use units::YuanPerTonne;
+use zone::Account;
+use zone::Receipt;
+use zone::Record;
+
+// ── Runs of bytes ───────────────────────────────────────────────────────────────────────────────
+
+pub fn account_run(image: &mut [u8], at: usize, a: Account)
+    requires { ⌜ at + accountLength ≤ length (now image) ⌝ }
+    ensures { λ _. ⌜ now (image .exit) ≡ sets (now (image .entry)) at (accountBytes a) ⌝ }
+{
+    wire::put_u64(image, at, a.free.0);
+    wire::put_u64(image, at + 8, a.frozen.0);
+}
+
+// A record's single bytes, due day, weight and basis.
+fn record_start(image: &mut [u8], at: usize, r: Record)
+    requires { ⌜ at + receiptLength ≤ length (now image) ⌝ }
+    ensures { λ _. ⌜ now (image .exit) ≡ sets (now (image .entry)) at (take 16 (recordBytes r)) ⌝ }
+{
+    let single = [r.owner, r.state, r.seller, r.buyer, r.contract, r.days];
+    wire::put_run(image, at, &single);
+    wire::put_u16(image, at + 6, r.due);
+    wire::put_u32(image, at + 8, r.weight.0);
+    wire::put_i32(image, at + 12, r.basis.0);
+}
+
+// Four bytes of an amount; more than four no valid record has.
+fn low_half(n: Fen) -> u32
+    ensures { λ r. ⌜ r ≡ n .0 % 4294967296 ⌝ }
+{
+    (n.0 % 4294967296) as u32
+}
+
+pub fn record_run(image: &mut [u8], at: usize, r: Record)
+    requires { ⌜ at + receiptLength ≤ length (now image) ⌝ }
+    ensures { λ _. ⌜ now (image .exit) ≡ sets (now (image .entry)) at (recordBytes r) ⌝ }
+{
+    record_start(image, at, r);
+    wire::put_u32(image, at + 16, r.price.0);
+    wire::put_u32(image, at + 20, low_half(r.pending));
+    wire::put_u32(image, at + 24, low_half(r.confirmed));
+    wire::put_u32(image, at + 28, low_half(r.paid));
+}
+
+// ── Parts of a zone ─────────────────────────────────────────────────────────────────────────────
+
+pub fn clock(image: &mut [u8], day: u16, afternoon: bool)
+    requires { ⌜ Encoded (now image) ⌝ }
+    ensures { λ _. ⌜ now (image .exit) ≡ encode (withClock (decode (now (image .entry))) day afternoon) ⌝ }
+{
+    wire::put_u16(image, DAY_AT, day);
+    image[PHASE_AT] = image::phase(afternoon);
+}
+
+pub fn total(image: &mut [u8], total: Fen)
+    requires { ⌜ Encoded (now image) ⌝ }
+    ensures { λ _. ⌜ now (image .exit) ≡ encode (withTotal (decode (now (image .entry))) total) ⌝ }
+{
+    wire::put_u64(image, TOTAL_AT, total.0);
+}
+
+pub fn account(image: &mut [u8], k: usize, a: Account)
+    requires { ⌜ Encoded (now image) × (k < accountCount) ⌝ }
+    ensures { λ _. ⌜ now (image .exit) ≡ encode (withAccounts (decode (now (image .entry))) (set (decode (now (image .entry)) .accounts) k a)) ⌝ }
+{
+    account_run(image, ACCOUNT_START + k * ACCOUNT_LENGTH, a);
+}
+
+pub fn ask(image: &mut [u8], k: usize, ask: YuanPerTonne)
+    requires { ⌜ Encoded (now image) × (k < contractCount) ⌝ }
+    ensures { λ _. ⌜ now (image .exit) ≡ encode (withAsks (decode (now (image .entry))) (set (decode (now (image .entry)) .asks) k ask)) ⌝ }
+{
+    wire::put_u32(image, CONTRACT_START + k * ASK_LENGTH, ask.0);
+}
+
+// Every ask is none.
+pub fn no_asks(image: &mut [u8])
+    requires { ⌜ Encoded (now image) ⌝ }
+    ensures { λ _. ⌜ now (image .exit) ≡ encode (withAsks (decode (now (image .entry))) noAsks) ⌝ }
+{
+    wire::put_zeros(image, CONTRACT_START, CONTRACTS * ASK_LENGTH);
+}
+
+pub fn receipt(image: &mut [u8], k: usize, r: Receipt)
+    requires { ⌜ Encoded (now image) × (k < receiptCount) ⌝ }
+    ensures { λ _. ⌜ now (image .exit) ≡ encode (withReceipts (decode (now (image .entry))) (set (decode (now (image .entry)) .receipts) k r)) ⌝ }
+{
+    record_run(
+        image,
+        RECEIPT_START + k * RECEIPT_LENGTH,
+        zone::record_of(r),
+    );
+}
