@@ -2,14 +2,14 @@ pub mod Tables
 pub mod Moves
 pub mod Funded
 pub mod Kinds
+pub mod Steps
 pub mod Passed
-pub mod Chain
 pub mod Good
 pub mod Receipts
+pub mod Chain
 pub mod Fit
 pub mod Offers
 pub mod Trades
 pub mod Links
 pub mod Keeps
 pub mod Ready
-pub mod Steps

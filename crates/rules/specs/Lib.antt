@@ -1,10 +1,9 @@
 pub mod Tables
-pub mod Sized
 pub mod View
 pub mod Numbers
 pub mod Events
 pub mod Effects
-pub mod Outcome
+pub mod Steps
 pub mod Order
 pub mod Ready
 pub mod Laws

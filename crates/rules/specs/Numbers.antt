@@ -1,19 +1,18 @@
--- The numbers 3 to 13 (document 01, "Answers and turned-down calls"): one test for each, and the table.
--- The byte buffers' own numbers, 1 and 2, stand with the entry.
+-- The numbers 3 to 13 (01 Answers 14 to 24): one test for each, and the table. The byte buffers' own numbers, 1 and 2, stand with the
+-- entry (crz, Returned).
 -- Assumes nothing.
 use mathlib.Core.Bool.{Bool, true, false, not, _&&_, _||_}
 use mathlib.Core.List.{List, [], _∷_}
-use Prim.Native.Nat.{ℕ, zero, suc, _+_, _-_, _^_}
-use lib.Dec.{eqb, leb, ltb}
+use Prim.Native.Nat.{ℕ, zero, suc, _+_}
+use lib.Dec.{eqb, ltb}
 use lib.IntN.{ℤ, pos, negsuc}
 use Rattle.units.specs.Payments.{payable, deposit}
-use Rattle.units.specs.Ranges.{within, isPrice, isBasis, isWeight, isAmount}
+use Rattle.units.specs.Ranges.{within, isZero, isAccount, isReceipt, isContract, isDays, isPrice, isBasis, isWeight, isAmount, moneyLimit, lastDay}
 use Rattle.zone.specs.declared.Record.{Record}
 use Rattle.zone.specs.Held.{full, heldBy}
-use Rattle.zone.specs.Valid.{isAccount, isZero}
 use Rattle.rules.specs.declared.Call.{Call}
 use Rattle.rules.specs.declared.View.{View}
-use Rattle.rules.specs.Tables.{among, row, lowest}
+use Rattle.rules.specs.Tables.{among, row, firstThatApplies}
 
 -- ── The fields of a call ───────────────────────────────────────────────────────────────────────
 
@@ -32,19 +31,18 @@ abbrev pub natural : (ℕ → Bool) → ℤ → Bool
 natural f (pos n) = f n
 natural f (negsuc n) = false
 
--- "Ranges: account 1 to 96, receipt 1 to 128, contract 1 to 8, D 0 to 3, price a multiple of 5 from 5 to 200,000,
--- basis -50,000 to 50,000, weight 1,000 to 60,000, amount 1 to 10^12."
+-- the fields, each with the range of its numbers (01 Image 17)
 abbrev pub account : Field
 account = record { place = 0; range = natural isAccount }
 
 abbrev pub receipt : Field
-receipt = record { place = 1; range = natural (within 1 128) }
+receipt = record { place = 1; range = natural isReceipt }
 
 abbrev pub contract : Field
-contract = record { place = 2; range = natural (within 1 8) }
+contract = record { place = 2; range = natural isContract }
 
 abbrev pub D : Field
-D = record { place = 3; range = natural (λ n. leb n 3) }
+D = record { place = 3; range = natural isDays }
 
 abbrev pub amount : Field
 amount = record { place = 4; range = natural isAmount }
@@ -61,7 +59,7 @@ basis = record { place = 5; range = isBasis }
 abbrev pub weight : Field
 weight = record { place = 6; range = natural isWeight }
 
--- the fields in each kind's brackets; the spare bytes are in none
+-- the fields that each kind uses, those in its brackets (01 Calls 4 to 25); the spare bytes are in none
 abbrev pub brackets : ℕ → List Field
 brackets kind =
     row kind []
@@ -78,7 +76,7 @@ abbrev pub isUsed : ℕ → List Field → Bool
 isUsed place [] = false
 isUsed place (f ∷ fs) = eqb place (f .place) || isUsed place fs
 
--- "Unused fields are zero": from the place on, each value is used or zero
+-- from the place on, each value is used or zero (01 Calls 3)
 abbrev pub unusedZero : List Field → ℕ → List ℤ → Bool
 unusedZero fs place [] = true
 unusedZero fs place (v ∷ vs) = (isUsed place fs || isZero v) && unusedZero fs (suc place) vs
@@ -93,30 +91,30 @@ inRange [] vs = true
 inRange (f ∷ fs) vs = f .range (valueAt (f .place) vs) && inRange fs vs
 
 -- ── One test for each number ───────────────────────────────────────────────────────────────────
--- r is the record of the receipt that the call names, v what the rules read beside it
+-- f is the record of the receipt that the call names, v what the rules read beside it
 
--- 3: "kind unknown, unused field not zero"
+-- 3: a kind that is none, or a field that the kind does not use and that is not zero
 unfoldable pub illFormed : Call → Bool
 illFormed c = not (within 1 15 (c .kind) && unusedZero (brackets (c .kind)) 0 (values c))
 
--- 4: "field out of range"
+-- 4: a field that the kind uses is not in its range
 unfoldable pub outOfRange : Call → Bool
 outOfRange c = not (inRange (brackets (c .kind)) (values c))
 
--- 5: "11 in an afternoon; 15 in a morning or on day 30,000"
+-- 5: the morning close belongs to a morning, the day close to an afternoon, and the last day has none
 unfoldable pub wrongPhase : View → Call → Bool
 wrongPhase v c =
     row (c .kind) false
     ((11 ∷ [], v .afternoon)
-    ∷ (15 ∷ [], not (v .afternoon) || eqb (v .day) 30000)
+    ∷ (15 ∷ [], not (v .afternoon) || eqb (v .day) lastDay)
     ∷ [])
 
 -- the state named, for each kind that names one; a registered receipt has an owner
 abbrev pub inStateNamed : Call → Record → Bool
-inStateNamed c r =
-    let isIn : List ℕ → Bool = among (r .state) in
-    let registered : Bool = not (eqb (r .owner) 0) in
-    let pending : Bool = not (eqb (r .pending .0) 0) in
+inStateNamed c f =
+    let isIn : List ℕ → Bool = among (f .state) in
+    let registered : Bool = not (eqb (f .owner) 0) in
+    let pending : Bool = not (eqb (f .pending .0) 0) in
     row (c .kind) true
     ((3 ∷ [], not registered)
     ∷ (4 ∷ [], isIn (0 ∷ []) && registered)
@@ -128,73 +126,73 @@ inStateNamed c r =
     ∷ (14 ∷ [], isIn (6 ∷ []) && pending)
     ∷ [])
 
--- 6: "receipt, lot or added book not in the state named; 13 with an invoice pending, 14 with none"
+-- 6: the receipt is not in the state that the kind names; an invoice waits already, or none waits for its confirmation
 unfoldable pub wrongState : Call → Record → Bool
-wrongState c r = not (inStateNamed c r)
+wrongState c f = not (inStateNamed c f)
 
 -- the party named: the owner lists, the seller and the buyer act on their lot; the seller does not bid
 abbrev pub isPartyNamed : Call → Record → Bool
-isPartyNamed c r =
+isPartyNamed c f =
     let by : ℕ → Bool = eqb (c .account) in
     row (c .kind) true
-    ((4 ∷ [], by (r .owner))
-    ∷ (5 ∷ 10 ∷ 12 ∷ 13 ∷ [], by (r .seller))
-    ∷ (8 ∷ 14 ∷ [], by (r .buyer))
-    ∷ (6 ∷ 7 ∷ [], not (by (r .seller)))
+    ((4 ∷ [], by (f .owner))
+    ∷ (5 ∷ 10 ∷ 12 ∷ 13 ∷ [], by (f .seller))
+    ∷ (8 ∷ 14 ∷ [], by (f .buyer))
+    ∷ (6 ∷ 7 ∷ [], not (by (f .seller)))
     ∷ [])
 
--- 7: "not the party named; 6, 7 or an added bid by the seller"
+-- 7: the caller is not the party that the kind names, or bids on its own listing
 unfoldable pub wrongParty : Call → Record → Bool
-wrongParty c r = not (isPartyNamed c r)
+wrongParty c f = not (isPartyNamed c f)
 
--- 8: "limit price not above the standing bid"; with no standing bid the price of the record is 0
+-- 8: a limit bid must be above the standing one; with none the price of the record is 0
 unfoldable pub notAbove : Call → Record → Bool
-notAbove c r = eqb (c .kind) 6 && not (ltb (r .price .0) (c .amount))
+notAbove c f = eqb (c .kind) 6 && not (ltb (f .price .0) (c .amount))
 
--- 9: "market bid, no ask"
-unfoldable pub noAsk : View → Call → Bool
-noAsk v c = eqb (c .kind) 7 && eqb (v .ask .0) 0
+-- 9: a market bid needs an ask
+unfoldable pub lacksAsk : View → Call → Bool
+lacksAsk v c = eqb (c .kind) 7 && eqb (v .ask .0) 0
 
--- 10: "kind 6: bid price + basis < 1; kind 7: ask + basis < 1"
+-- 10: price and basis, or ask and basis, leave less than 1 yuan per tonne to pay
 unfoldable pub notPayable : View → Call → Record → Bool
-notPayable v c r =
+notPayable v c f =
     row (c .kind) false
-    ((6 ∷ [], not (payable (record { 0 = c .amount }) (r .basis)))
-    ∷ (7 ∷ [], not (payable (v .ask) (r .basis)))
+    ((6 ∷ [], not (payable (record { 0 = c .amount }) (f .basis)))
+    ∷ (7 ∷ [], not (payable (v .ask) (f .basis)))
     ∷ [])
 
--- 11: "free money under the amount (kind 2) or the deposit (6, 7)". A standing bid dies, "its deposit freed before the money
--- test": what this lot holds from the caller counts as free.
-unfoldable pub noMoney : View → Call → Record → Bool
-noMoney v c r =
+-- 11: free money is short of what is taken out, or of the deposit of a bid. The bid that stood is over first, so what the lot holds from
+-- the caller counts as free.
+unfoldable pub lacksMoney : View → Call → Record → Bool
+lacksMoney v c f =
     row (c .kind) false
-    ((2 ∷ [], ltb (v .caller .0) (c .amount))
-    ∷ (6 ∷ 7 ∷ [], ltb (v .caller .0 + heldBy (c .account) r) (deposit .0))
+    ((2 ∷ [], ltb (v .free .caller .0) (c .amount))
+    ∷ (6 ∷ 7 ∷ [], ltb (v .free .caller .0 + heldBy (c .account) f) (deposit .0))
     ∷ [])
 
--- 12: "total would pass 10^15"
+-- 12: all money would pass its limit
 unfoldable pub aboveLimit : View → Call → Bool
-aboveLimit v c = eqb (c .kind) 1 && ltb (10 ^ 15) (v .total .0 + c .amount)
+aboveLimit v c = eqb (c .kind) 1 && ltb moneyLimit (v .total .0 + c .amount)
 
--- 13: "invoice > full - confirmed". Confirmed is below full in state 6.
+-- 13: with this invoice more would be invoiced than full
 unfoldable pub aboveInvoice : Call → Record → Bool
-aboveInvoice c r = eqb (c .kind) 13 && ltb (full r .0 - r .confirmed .0) (c .amount)
+aboveInvoice c f = eqb (c .kind) 13 && ltb (full f .0) (f .confirmed .0 + c .amount)
 
 -- ── The table ──────────────────────────────────────────────────────────────────────────────────
 
--- "The lowest number that applies is returned, and none where none applies." None is 0.
-unfoldable pub number : View → Call → Record → ℕ
-number v c r =
-    lowest
+-- the first row that applies, 0 where none does (01 Answers 26)
+unfoldable pub firstNumber : View → Call → Record → ℕ
+firstNumber v c f =
+    firstThatApplies
     ((3, illFormed c)
     ∷ (4, outOfRange c)
     ∷ (5, wrongPhase v c)
-    ∷ (6, wrongState c r)
-    ∷ (7, wrongParty c r)
-    ∷ (8, notAbove c r)
-    ∷ (9, noAsk v c)
-    ∷ (10, notPayable v c r)
-    ∷ (11, noMoney v c r)
+    ∷ (6, wrongState c f)
+    ∷ (7, wrongParty c f)
+    ∷ (8, notAbove c f)
+    ∷ (9, lacksAsk v c)
+    ∷ (10, notPayable v c f)
+    ∷ (11, lacksMoney v c f)
     ∷ (12, aboveLimit v c)
-    ∷ (13, aboveInvoice c r)
+    ∷ (13, aboveInvoice c f)
     ∷ [])

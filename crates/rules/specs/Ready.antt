@@ -1,22 +1,44 @@
--- What the code of the rules asks of its caller, who has it from a valid zone and a call of number 0.
+-- What the code asks of its callers, who have it from a valid zone and a call of number 0.
 -- Assumes nothing.
 use mathlib.Core.Bool.{true}
+use mathlib.Core.List.{List}
 use mathlib.Core.Path.{_≡_}
-use Prim.Native.Nat.{_≤_, _<_, _^_}
-use Rattle.zone.specs.declared.Receipt.{Receipt}
-use Rattle.zone.specs.Record.{recordOf}
+use Prim.Native.Nat.{ℕ, _+_, _≤_, _<_, _^_}
+use lib.ListN.{length}
+use Rattle.units.specs.declared.Fen.{Fen}
+use Rattle.units.specs.Ranges.{mostPrice, moneyLimit, lastDay}
+use Rattle.zone.specs.declared.Account.{Account}
+use Rattle.zone.specs.declared.Hold.{Hold}
+use Rattle.zone.specs.declared.Record.{Record}
+use Rattle.zone.specs.Held.{share}
 use Rattle.zone.specs.Valid.{recordValid}
 use Rattle.rules.specs.declared.Call.{Call}
 use Rattle.rules.specs.declared.View.{View}
+use Rattle.rules.specs.View.{freeAt, frozenAt}
 
--- the receipt is valid, and the view is of a valid zone
-pub record Ready (v : View) (r : Receipt) : Type 0 where
-  pub valid : recordValid (recordOf r) ≡ true
-  pub day : v .day ≤ 30000
-  pub buyer : v .buyer .0 ≤ 10 ^ 15
+-- the lot's record is valid, and the view is of a valid zone
+pub record Ready (v : View) (f : Record) : Type 0 where
+  pub valid : recordValid f ≡ true
+  pub day : v .day ≤ lastDay
+  pub caller : v .free .caller .0 ≤ moneyLimit
+  pub buyer : v .free .buyer .0 ≤ moneyLimit
+  pub total : v .total .0 ≤ moneyLimit
 
 -- what the numbers have tested of a call at one lot
-pub record ReadyCall (c : Call) (r : Receipt) : Type 0 where
-  pub price : c .kind ≡ 6 → c .amount ≤ 200000
+pub record ReadyCall (c : Call) (f : Record) : Type 0 where
+  pub price : c .kind ≡ 6 → c .amount ≤ mostPrice
   pub invoice : c .kind ≡ 13 → c .amount < 2 ^ 32
-  pub pending : c .kind ≡ 14 → (recordOf r .state ≡ 6) × (0 < recordOf r .pending .0)
+  pub pending : c .kind ≡ 14 → (f .state ≡ 6) × (0 < f .pending .0)
+
+-- The money of an event is there: `old` is freed, n passes from account s to account t, then `new` is frozen.
+pub record Funds (l : List Account) (old : Hold) (s t : ℕ) (n : Fen) (new : Hold) : Type 0 where
+  pub old-in : old .by ≤ length l
+  pub from-in : s ≤ length l
+  pub to-in : t ≤ length l
+  pub new-in : new .by ≤ length l
+  pub from-some : 0 < s
+  pub to-some : 0 < n .0 → 0 < t
+  pub frozen-fits : 0 < old .by → old .fen .0 ≤ frozenAt l (old .by) .0
+  pub pass-fits : n .0 ≤ freeAt l s .0 + share s (old .by) (old .fen .0)
+  pub hold-fits : 0 < new .by →
+      new .fen .0 + share (new .by) s (n .0) ≤ freeAt l (new .by) .0 + share (new .by) (old .by) (old .fen .0) + share (new .by) t (n .0)

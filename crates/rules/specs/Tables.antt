@@ -16,12 +16,12 @@ abbrev pub row : {A : Type 0} → ℕ → A → List (List ℕ × A) → A
 row n d [] = d
 row n d (r ∷ rs) = cond (among n (r .0)) (r .1) (row n d rs)
 
--- "The lowest number that applies is returned, and none where none applies": the first row whose test passes; none is 0
-abbrev pub lowest : List (ℕ × Bool) → ℕ
-lowest [] = 0
-lowest (r ∷ rs) = cond (r .1) (r .0) (lowest rs)
+-- the number of the first row whose test applies, 0 where none does (01 Answers 26)
+abbrev pub firstThatApplies : List (ℕ × Bool) → ℕ
+firstThatApplies [] = 0
+firstThatApplies (r ∷ rs) = cond (r .1) (r .0) (firstThatApplies rs)
 
--- "Accounts count from 1, 0 is nobody; receipts and contracts count from 1": entry a of a table, d for nobody
+-- Accounts, receipts and contracts count from 1 (01 Image 6): entry a of a table, and d for 0, which is nobody.
 module _ {A : Type 0} where
   unfoldable pub nth : A → List A → ℕ → A
   nth d l zero = d

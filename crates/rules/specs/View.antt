@@ -1,4 +1,4 @@
--- What a rule reads of the zone beside its receipt.
+-- What a rule reads of the zone beside the record of its lot.
 -- Assumes nothing.
 use mathlib.Core.List.{List}
 use Prim.Native.Nat.{ℕ}
@@ -6,36 +6,43 @@ use Rattle.units.specs.declared.Fen.{Fen}
 use Rattle.units.specs.declared.YuanPerTonne.{YuanPerTonne}
 use Rattle.zone.specs.declared.Account.{Account}
 use Rattle.zone.specs.declared.Receipt.{Receipt}
+use Rattle.zone.specs.declared.Record.{Record}
 use Rattle.zone.specs.declared.Zone.{Zone}
 use Rattle.zone.specs.Record.{recordOf}
-use Rattle.zone.specs.Valid.{nothing, noReceipt}
+use Rattle.zone.specs.Valid.{emptyAccount, noReceipt, noAsk}
 use Rattle.rules.specs.declared.View.{View}
 use Rattle.rules.specs.Tables.{nth}
 
 -- free and frozen money of account a; nobody has none
 unfoldable pub freeAt : List Account → ℕ → Fen
-freeAt l a = nth nothing l a .free
+freeAt l a = nth emptyAccount l a .free
 
 unfoldable pub frozenAt : List Account → ℕ → Fen
-frozenAt l a = nth nothing l a .frozen
+frozenAt l a = nth emptyAccount l a .frozen
 
--- the receipt of a number; 0 names none
+-- the receipt of a number, and its record; 0 names none
 unfoldable pub receiptAt : List Receipt → ℕ → Receipt
 receiptAt l k = nth noReceipt l k
 
--- "ask u32, the best sell price; 0 means none": ask is document 01's own term
-unfoldable pub askAt : List YuanPerTonne → ℕ → YuanPerTonne
-askAt l k = nth (record { 0 = 0 }) l k
+abbrev pub recordAt : Zone → ℕ → Record
+recordAt z n = recordOf (receiptAt (z .receipts) n)
 
--- of a zone, for a call of account a and the receipt r
-unfoldable pub viewOf : Zone → ℕ → Receipt → View
-viewOf z a r =
+-- the ask of a contract; contract 0 has none
+unfoldable pub askAt : List YuanPerTonne → ℕ → YuanPerTonne
+askAt l k = nth noAsk l k
+
+-- of a zone, for a call of account a at a lot of record f: the clock, the ask of the lot's contract, the free money of those concerned
+-- and the total
+unfoldable pub viewOf : Zone → ℕ → Record → View
+viewOf z a f =
     record {
       day = z .day;
       afternoon = z .afternoon;
-      ask = askAt (z .asks) (recordOf r .contract);
-      caller = freeAt (z .accounts) a;
-      buyer = freeAt (z .accounts) (recordOf r .buyer);
-      seller = freeAt (z .accounts) (recordOf r .seller);
+      ask = askAt (z .asks) (f .contract);
+      free = record {
+        caller = freeAt (z .accounts) a;
+        buyer = freeAt (z .accounts) (f .buyer);
+        seller = freeAt (z .accounts) (f .seller);
+      };
       total = z .total;
     }

@@ -5,30 +5,28 @@ use mathlib.Core.List.{List, [], _∷_, _++_}
 use mathlib.Core.Path.{_≡_, refl, sym, _∙_, subst}
 use Prim.Native.Nat.{ℕ, zero, suc, _+_, _≤_, _<_}
 use native.Mathlib.Omega.{arith}
-use Rattle.units.specs.Ranges.{within}
+use Rattle.units.specs.Ranges.{receiptCount, isReceipt}
 use Rattle.zone.specs.declared.Receipt.{Receipt}
 use Rattle.zone.specs.declared.Zone.{Zone}
 use Rattle.zone.specs.Laws.Tests.{InRange, range-in}
 use Rattle.rules.specs.declared.Call.{Call}
 use Rattle.rules.specs.declared.Entry.{Entry}
-use Rattle.rules.specs.declared.Step.{Step}
-use Rattle.rules.specs.declared.Step.the-variants.{Refused, NoEvent, Event}
-use Rattle.rules.specs.Effects.{ruleAt, opening, firstLot, lotCount, ending, effect}
-use Rattle.rules.specs.Events.{happen, Done, after, sweep}
+use Rattle.rules.specs.declared.AtLot.{AtLot}
+use Rattle.rules.specs.declared.AtLot.the-variants.{NoEvent, Event}
+use Rattle.rules.specs.Effects.{ruleAt, opening, sweeps, firstLot, lotCount, ending, effect}
+use Rattle.rules.specs.Events.{posted, Done, afterLot, sweep}
 use Rattle.rules.specs.Laws.Kinds.{withKind, ByKind, by-kind}
 use Rattle.rules.specs.Laws.Passed.{PassedAt, passed-at, ranges, kind-in}
-use Rattle.rules.specs.Outcome.{accepted, result, numberOf, outcome}
-use Rattle.rules.specs.Tables.{among}
+use Rattle.rules.specs.Steps.{numberOn}
 
--- ── A claim about the event of a step ──────────────────────────────────────────────────────────
+-- ── A claim about the event at a lot ───────────────────────────────────────────────────────────
 
-abbrev pub OnOf : (Entry → Receipt → Type 0) → Step → Type 0
-OnOf P (Refused n) = Unit {0}
+abbrev pub OnOf : (Entry → Receipt → Type 0) → AtLot → Type 0
 OnOf P NoEvent = Unit {0}
 OnOf P (Event e r) = P e r
 
--- P of the step's event, if it has one
-pub record On (P : Entry → Receipt → Type 0) (s : Step) : Type 0 where
+-- P of the event at a lot, if there is one
+pub record On (P : Entry → Receipt → Type 0) (s : AtLot) : Type 0 where
   pub is : OnOf P s
 
 module _ {P : Entry → Receipt → Type 0} where
@@ -38,26 +36,24 @@ module _ {P : Entry → Receipt → Type 0} where
   pub event : {e : Entry} {r : Receipt} → P e r → On P (Event e r)
   event p = record { is = p }
 
-  pub chosen : (b : Bool) (s t : Step) → (b ≡ true → On P s) → (b ≡ false → On P t) → On P (cond b s t)
+  pub chosen : (b : Bool) (s t : AtLot) → (b ≡ true → On P s) → (b ≡ false → On P t) → On P (cond b s t)
   chosen true s t f g = f refl
   chosen false s t f g = g refl
 
   -- an event where the test passes, else none
-  pub only : (b : Bool) (s : Step) → (b ≡ true → On P s) → On P (cond b s NoEvent)
+  pub only : (b : Bool) (s : AtLot) → (b ≡ true → On P s) → On P (cond b s NoEvent)
   only b s f = chosen b s NoEvent f (λ _. none)
 
-  pub on-event : {s : Step} {e : Entry} {r : Receipt} → On P s → s ≡ Event e r → P e r
+  pub on-event : {s : AtLot} {e : Entry} {r : Receipt} → On P s → s ≡ Event e r → P e r
   on-event o q = subst (On P) q o .is
 
 -- two claims at once
-pub both-on : {P Q : Entry → Receipt → Type 0} (s : Step) → On P s → On Q s → On (λ e r. P e r × Q e r) s
-both-on (Refused n) p q = record { is = tt }
+pub both-on : {P Q : Entry → Receipt → Type 0} (s : AtLot) → On P s → On Q s → On (λ e r. P e r × Q e r) s
 both-on NoEvent p q = record { is = tt }
 both-on (Event e r) p q = record { is = (p .is, q .is) }
 
 -- a claim that follows from another
-pub map-on : {P Q : Entry → Receipt → Type 0} (s : Step) → ((e : Entry) (r : Receipt) → P e r → Q e r) → On P s → On Q s
-map-on (Refused n) f p = record { is = tt }
+pub map-on : {P Q : Entry → Receipt → Type 0} (s : AtLot) → ((e : Entry) (r : Receipt) → P e r → Q e r) → On P s → On Q s
 map-on NoEvent f p = record { is = tt }
 map-on (Event e r) f p = record { is = f e r (p .is) }
 
@@ -65,22 +61,22 @@ map-on (Event e r) f p = record { is = f e r (p .is) }
 
 -- Why lot n is visited: the call goes through all lots, or it names this one and no number applies.
 pub data Visit (c : Call) (z : Zone) (n : ℕ) : Type 0 where
-  swept : among (c .kind) (9 ∷ 11 ∷ 15 ∷ []) ≡ true → Visit c z n
+  swept : sweeps (c .kind) ≡ true → Visit c z n
   named : n ≡ c .receipt → PassedAt c z n → Visit c z n
 
 -- events of the call's rule from lot lo on, from zone z to the last zone
 pub data Chain (c : Call) : ℕ → Zone → List Entry → Zone → Type 0 where
   stop : {lo : ℕ} {z : Zone} → Chain c lo z [] z
-  link : {lo : ℕ} {z : Zone} {es : List Entry} {last : Zone} (n : ℕ) (e : Entry) (r : Receipt) → 0 < n → lo ≤ n → n ≤ 128
-      → Visit c z n → ruleAt c z n ≡ Event e r → Chain c (suc n) (happen z e r) es last → Chain c lo z (e ∷ es) last
+  link : {lo : ℕ} {z : Zone} {es : List Entry} {last : Zone} (n : ℕ) (e : Entry) (r : Receipt) → 0 < n → lo ≤ n → n ≤ receiptCount
+      → Visit c z n → ruleAt c z n ≡ Event e r → Chain c (suc n) (posted z e r) es last → Chain c lo z (e ∷ es) last
 
 -- what a sweep of `more` lots from n on may assume: the lots are in range, and why the first and the others are visited
 pub record Path (c : Call) (z : Zone) (lo n more : ℕ) : Type 0 where
   pub low : 0 < more → 0 < n
   pub up : 0 < more → lo ≤ n
-  pub high : 0 < more → n + more ≤ 129
+  pub high : 0 < more → n + more ≤ receiptCount + 1
   pub first : 0 < more → Visit c z n
-  pub others : 1 < more → among (c .kind) (9 ∷ 11 ∷ 15 ∷ []) ≡ true
+  pub others : 1 < more → sweeps (c .kind) ≡ true
 
 -- after the first lot, whatever it left
 pub path-next : {c : Call} {z : Zone} {lo n more : ℕ} → Path c z lo n (suc more) → (y : Zone) (lo′ : ℕ) → lo′ ≤ suc n → Path c y lo′ (suc n) more
@@ -100,21 +96,20 @@ sweep-chain c zero n lo z p = stop
 sweep-chain c (suc more) n lo z p =
     go (ruleAt c z n) refl λ lo′ y h. sweep-chain c more (suc n) lo′ y (path-next p y lo′ h)
   where
-    go : (s : Step) → ruleAt c z n ≡ s
+    go : (s : AtLot) → ruleAt c z n ≡ s
         → ((lo′ : ℕ) (y : Zone) → lo′ ≤ suc n
         → Chain c lo′ y (sweep (ruleAt c) more (suc n) y .entries) (sweep (ruleAt c) more (suc n) y .zone))
-        → Chain c lo z (after z s .entries ++ sweep (ruleAt c) more (suc n) (after z s .zone) .entries)
-        (sweep (ruleAt c) more (suc n) (after z s .zone) .zone)
-    go (Refused m) q g = g lo z (omega (arith, p .up (omega arith)))
+        → Chain c lo z (afterLot z s .entries ++ sweep (ruleAt c) more (suc n) (afterLot z s .zone) .entries)
+        (sweep (ruleAt c) more (suc n) (afterLot z s .zone) .zone)
     go NoEvent q g = g lo z (omega (arith, p .up (omega arith)))
     go (Event e r) q g =
-        let h : n + suc more ≤ 129 = p .high (omega arith) in
+        let h : n + suc more ≤ receiptCount + 1 = p .high (omega arith) in
         link n e r (p .low (omega arith)) (p .up (omega arith)) (omega arith) (p .first (omega arith)) q
-        (g (suc n) (happen z e r) (omega arith))
+        (g (suc n) (posted z e r) (omega arith))
 
 -- what holds of a zone and is kept by each event holds at the end
 pub walk : {c : Call} (I : Zone → Type 0)
-    → ((z : Zone) (n : ℕ) (e : Entry) (r : Receipt) → 0 < n → n ≤ 128 → Visit c z n → ruleAt c z n ≡ Event e r → I z → I (happen z e r))
+    → ((z : Zone) (n : ℕ) (e : Entry) (r : Receipt) → 0 < n → n ≤ receiptCount → Visit c z n → ruleAt c z n ≡ Event e r → I z → I (posted z e r))
     → {lo : ℕ} {z : Zone} {es : List Entry} {last : Zone} → Chain c lo z es last → I z → I last
 walk I f stop i = i
 walk I f (link {z = z} n e r a b h v q t) i = walk I f t (f z n e r a h v q i)
@@ -127,15 +122,6 @@ pub record Taken (z : Zone) (c : Call) (d : Done) : Type 0 where
   pub chain : Chain c 1 (opening c z) (d .entries) last
   pub zone : d .zone ≡ ending c last
 
--- number 0 and the effect
-pub accepted-is : (z : Zone) (c : Call) (d : Done) → outcome z c ≡ accepted d → (numberOf z c ≡ 0) × (effect z c ≡ d)
-unfolding outcome
-accepted-is z c d h = go (numberOf z c) (effect z c) h
-  where
-    go : (n : ℕ) (x : Done) → result n x ≡ accepted d → (n ≡ 0) × (x ≡ d)
-    go zero x h = (refl, cc)
-    go (suc n) x h = let k : _≡_ {A = ℕ} 0 1 = cc in absurd (omega arith)
-
 -- no lot, the lot named, all lots
 nowhere : (c : Call) (z : Zone) (n : ℕ) → Path c z 1 n 0
 nowhere c z n = record { low = void; up = void; high = void; first = void; others = λ q. absurd (omega arith) }
@@ -143,12 +129,12 @@ nowhere c z n = record { low = void; up = void; high = void; first = void; other
     void : {X : Type 0} → 0 < 0 → X
     void q = absurd (omega arith)
 
-only-there : (c : Call) (z : Zone) → PassedAt c z (c .receipt) → within 1 128 (c .receipt) ≡ true → Path c z 1 (c .receipt) 1
+only-there : (c : Call) (z : Zone) → PassedAt c z (c .receipt) → isReceipt (c .receipt) ≡ true → Path c z 1 (c .receipt) 1
 only-there c z P h =
-    let R : InRange 1 128 (c .receipt) = range-in h in
+    let R : InRange 1 receiptCount (c .receipt) = range-in h in
     record { low = λ q. R .low; up = λ q. R .low; high = λ q. omega arith; first = λ q. named refl P; others = λ q. absurd (omega arith) }
 
-everywhere : (c : Call) (z : Zone) → among (c .kind) (9 ∷ 11 ∷ 15 ∷ []) ≡ true → Path c z 1 1 128
+everywhere : (c : Call) (z : Zone) → sweeps (c .kind) ≡ true → Path c z 1 1 receiptCount
 everywhere c z h =
     record { low = λ q. omega arith; up = λ q. omega arith; high = λ q. omega arith; first = λ q. swept h; others = λ q. h }
 
@@ -195,7 +181,5 @@ module _ (z : Zone) (c : Call) where
         zone = refl;
       }
 
-  pub taken : (d : Done) → outcome z c ≡ accepted d → Taken z c d
-  taken d h =
-      let t = accepted-is z c d h in
-      subst (Taken z c) (t .1) (taken-of (passed-at z c (t .0)))
+  pub taken : numberOn z c ≡ 0 → Taken z c (effect z c)
+  taken h = taken-of (passed-at z c h)

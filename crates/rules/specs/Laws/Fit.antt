@@ -6,8 +6,10 @@ use mathlib.Core.Path.{_≡_, sym, ap, _∙_, subst}
 use Prim.Native.Nat.{ℕ, _+_, _^_, _≤_, _<_}
 use native.Mathlib.Omega.{arith}
 use Rattle.units.specs.declared.Kilograms.{Kilograms}
+use Rattle.units.specs.Ranges.{accountCount, receiptCount}
 use Rattle.zone.specs.declared.Account.{Account}
 use Rattle.zone.specs.declared.Receipt.{Receipt}
+use Rattle.zone.specs.declared.Record.{Record}
 use Rattle.zone.specs.declared.Zone.{Zone}
 use Rattle.zone.specs.Held.{share, held, heldBy}
 use Rattle.zone.specs.Laws.Facts.{Owned, bounds}
@@ -17,47 +19,47 @@ use Rattle.zone.specs.Laws.Tests.{InRange}
 use Rattle.zone.specs.Record.{recordOf}
 use Rattle.zone.specs.Valid.{recordValid}
 use Rattle.rules.specs.declared.Entry.{Entry}
-use Rattle.rules.specs.Events.{passed, happen}
-use Rattle.rules.specs.Laws.Funded.{Funded, booked, total-moved, length-moved, heldSum-put, heldSum-nth}
+use Rattle.rules.specs.Events.{moneyOf, posted}
+use Rattle.rules.specs.Laws.Funded.{Funded, booked, total-after, length-after, heldSum-put, heldSum-nth}
 use Rattle.rules.specs.Laws.Good.{Good, valid-at}
 use Rattle.rules.specs.Laws.Moves.{share-zero}
 use Rattle.rules.specs.Laws.Receipts.{held-own}
 use Rattle.rules.specs.Laws.Tables.{length-put, all-put}
-use Rattle.rules.specs.View.{freeAt, receiptAt}
+use Rattle.rules.specs.View.{freeAt, recordAt}
 
 -- an entry that stands in an answer, for lot n
 pub record EntryOk (n : ℕ) (e : Entry) : Type 0 where
   pub lot : e .lot ≡ n
   pub outcome : InRange 1 15 (e .outcome)
-  pub from : InRange 1 96 (e .from)
-  pub to : e .to ≤ 96
+  pub from : InRange 1 accountCount (e .from)
+  pub to : e .to ≤ accountCount
   pub number : e .number < 2 ^ 32
 
--- The money of an event is there: of accounts l, lot r goes on as r′. What the lot held counts as free.
-pub record Pays (l : List Account) (r : Receipt) (e : Entry) (r′ : Receipt) : Type 0 where
-  pub to-some : 0 < passed e → 0 < e .to
-  pub pass-fits : passed e ≤ freeAt l (e .from) .0 + heldBy (e .from) (recordOf r)
-  pub hold-fits : 0 < recordOf r′ .buyer → held (recordOf r′) .0 + share (recordOf r′ .buyer) (e .from) (passed e)
-      ≤ freeAt l (recordOf r′ .buyer) .0 + heldBy (recordOf r′ .buyer) (recordOf r) + share (recordOf r′ .buyer) (e .to) (passed e)
+-- The money of an event is there: of accounts l, the lot of record f becomes r′. What the lot held counts as free.
+pub record Pays (l : List Account) (f : Record) (e : Entry) (r′ : Receipt) : Type 0 where
+  pub to-some : 0 < moneyOf e .0 → 0 < e .to
+  pub pass-fits : moneyOf e .0 ≤ freeAt l (e .from) .0 + heldBy (e .from) f
+  pub hold-fits : 0 < recordOf r′ .buyer → held (recordOf r′) .0 + share (recordOf r′ .buyer) (e .from) (moneyOf e .0)
+      ≤ freeAt l (recordOf r′ .buyer) .0 + heldBy (recordOf r′ .buyer) f + share (recordOf r′ .buyer) (e .to) (moneyOf e .0)
 
-pub record Fit (l : List Account) (n : ℕ) (r : Receipt) (e : Entry) (r′ : Receipt) : Type 0 where
+pub record Fit (l : List Account) (n : ℕ) (f : Record) (e : Entry) (r′ : Receipt) : Type 0 where
   pub entry : EntryOk n e
-  pub pays : Pays l r e r′
+  pub pays : Pays l f e r′
   pub known : LotIn (r′ .owner) (r′ .weight) (r′ .lot)
 
 -- the receipt after the event is valid
-pub fit-valid : {l : List Account} {n : ℕ} {r : Receipt} {e : Entry} {r′ : Receipt} → Fit l n r e r′ → recordValid (recordOf r′) ≡ true
+pub fit-valid : {l : List Account} {n : ℕ} {f : Record} {e : Entry} {r′ : Receipt} → Fit l n f e r′ → recordValid (recordOf r′) ≡ true
 fit-valid {r′ = r′} F = receipt-valid r′ (F .known)
 
 -- from its buyer a lot holds all that it holds
-held-from : {x : ℕ} (r : Receipt) → x ≡ recordOf r .buyer → heldBy x (recordOf r) ≡ held (recordOf r) .0
-held-from r b = ap (λ (x : ℕ). heldBy x (recordOf r)) b ∙ held-own (recordOf r)
+held-from : {x : ℕ} (f : Record) → x ≡ f .buyer → heldBy x f ≡ held f .0
+held-from f b = ap (λ (x : ℕ). heldBy x f) b ∙ held-own f
 
 -- ── Common shapes ──────────────────────────────────────────────────────────────────────────────
 
-module _ {l : List Account} {r : Receipt} {e : Entry} {r′ : Receipt} (p : passed e ≡ 0) where
+module _ {l : List Account} {f : Record} {e : Entry} {r′ : Receipt} (p : moneyOf e .0 ≡ 0) where
   -- nothing passes, and what the lot now holds its buyer has
-  pub holding : held (recordOf r′) .0 ≤ freeAt l (recordOf r′ .buyer) .0 + heldBy (recordOf r′ .buyer) (recordOf r) → Pays l r e r′
+  pub holding : held (recordOf r′) .0 ≤ freeAt l (recordOf r′ .buyer) .0 + heldBy (recordOf r′ .buyer) f → Pays l f e r′
   holding h =
       record {
         to-some = λ q. absurd (omega arith);
@@ -66,29 +68,29 @@ module _ {l : List Account} {r : Receipt} {e : Entry} {r′ : Receipt} (p : pass
       }
 
   -- nothing passes, and the lot now holds nothing
-  pub quiet : held (recordOf r′) .0 ≡ 0 → Pays l r e r′
+  pub quiet : held (recordOf r′) .0 ≡ 0 → Pays l f e r′
   quiet h = holding (omega arith)
 
   -- nothing passes, and the lot holds what it held, from the same buyer
-  pub kept : recordOf r′ .buyer ≡ recordOf r .buyer → held (recordOf r′) .0 ≤ held (recordOf r) .0 → Pays l r e r′
-  kept b h = holding (omega (arith, held-from r b))
+  pub kept : recordOf r′ .buyer ≡ f .buyer → held (recordOf r′) .0 ≤ held f .0 → Pays l f e r′
+  kept b h = holding (omega (arith, held-from f b))
 
 -- the payer has what passes, and the lot now holds nothing from anybody
-pub ending : {l : List Account} {r : Receipt} {e : Entry} {r′ : Receipt} → 0 < e .to → recordOf r′ .buyer ≡ 0
-    → passed e ≤ freeAt l (e .from) .0 + heldBy (e .from) (recordOf r) → Pays l r e r′
+pub ending : {l : List Account} {f : Record} {e : Entry} {r′ : Receipt} → 0 < e .to → recordOf r′ .buyer ≡ 0
+    → moneyOf e .0 ≤ freeAt l (e .from) .0 + heldBy (e .from) f → Pays l f e r′
 ending t b h = record { to-some = λ q. t; pass-fits = h; hold-fits = λ q. absurd (omega arith) }
 
 -- the buyer pays out of what the lot held, and the lot holds the rest, or no more than the rest
-pub paying : {l : List Account} {r : Receipt} {e : Entry} {r′ : Receipt} → 0 < e .to
-    → e .from ≡ recordOf r .buyer → e .from ≡ recordOf r′ .buyer → held (recordOf r′) .0 + passed e ≤ held (recordOf r) .0 → Pays l r e r′
-paying {l} {r} {e} {r′} t a b h =
+pub paying : {l : List Account} {f : Record} {e : Entry} {r′ : Receipt} → 0 < e .to
+    → e .from ≡ f .buyer → e .from ≡ recordOf r′ .buyer → held (recordOf r′) .0 + moneyOf e .0 ≤ held f .0 → Pays l f e r′
+paying {l} {f} {e} {r′} t a b h =
     record {
       to-some = λ q. t;
-      pass-fits = omega (arith, held-from r a);
+      pass-fits = omega (arith, held-from f a);
       hold-fits = λ q.
           subst
-          (λ (x : ℕ). held (recordOf r′) .0 + share x (e .from) (passed e) ≤ freeAt l x .0 + heldBy x (recordOf r) + share x (e .to) (passed e))
-          b (omega (arith, held-from r a, share-same (e .from) (passed e)));
+          (λ (x : ℕ). held (recordOf r′) .0 + share x (e .from) (moneyOf e .0) ≤ freeAt l x .0 + heldBy x f + share x (e .to) (moneyOf e .0))
+          b (omega (arith, held-from f a, share-same (e .from) (moneyOf e .0)));
     }
 
 -- a registered receipt with no lot
@@ -97,14 +99,14 @@ idle-in O = record { unregistered = λ e. absurd (omega (arith, O .owner .low));
 
 -- ── A good zone stays good ─────────────────────────────────────────────────────────────────────
 
-module _ (z : Zone) (e : Entry) (r′ : Receipt) (low : 0 < e .lot) (high : e .lot ≤ 128) (G : Good z)
-    (F : Fit (z .accounts) (e .lot) (receiptAt (z .receipts) (e .lot)) e r′) where
-  pub funded : Funded (z .accounts) (receiptAt (z .receipts) (e .lot)) e r′
+module _ (z : Zone) (e : Entry) (r′ : Receipt) (low : 0 < e .lot) (high : e .lot ≤ receiptCount) (G : Good z)
+    (F : Fit (z .accounts) (e .lot) (recordAt z (e .lot)) e r′) where
+  pub funded : Funded (z .accounts) (recordAt z (e .lot)) e (recordOf r′)
   unfolding heldBy
   funded =
-      let r : Receipt = receiptAt (z .receipts) (e .lot) in
-      let P : Pays (z .accounts) r e r′ = F .pays in
-      let i : recordOf r .buyer ≤ 96 = bounds (recordOf r) (valid-at z G (e .lot)) .buyer in
+      let f : Record = recordAt z (e .lot) in
+      let P : Pays (z .accounts) f e r′ = F .pays in
+      let i : f .buyer ≤ accountCount = bounds f (valid-at z G (e .lot)) .buyer in
       record {
         old-in = rw (G .sized .accounts) i;
         from-in = rw (G .sized .accounts) (F .entry .from .high);
@@ -113,19 +115,19 @@ module _ (z : Zone) (e : Entry) (r′ : Receipt) (low : 0 < e .lot) (high : e .l
         from-some = F .entry .from .low;
         to-some = P .to-some;
         frozen-fits = λ q.
-            rw (G .frozen (recordOf r .buyer) q i)
-            (rw (held-own (recordOf r)) at (heldSum-nth (recordOf r .buyer) (z .receipts) (e .lot) low (rw (G .sized .receipts) high)));
+            rw (G .frozen (f .buyer) q i)
+            (rw (held-own f) at (heldSum-nth (f .buyer) (z .receipts) (e .lot) low (rw (G .sized .receipts) high)));
         pass-fits = P .pass-fits;
         hold-fits = P .hold-fits;
       }
 
-  stays : Good (happen z e r′)
-  unfolding happen
+  stays : Good (posted z e r′)
+  unfolding posted
   stays =
-      let r : Receipt = receiptAt (z .receipts) (e .lot) in
+      let f : Record = recordAt z (e .lot) in
       record {
         sized = record {
-          accounts = length-moved (z .accounts) r e r′ ∙ G .sized .accounts;
+          accounts = length-after (z .accounts) f e (recordOf r′) ∙ G .sized .accounts;
           receipts = length-put (z .receipts) (e .lot) r′ ∙ G .sized .receipts;
           asks = G .sized .asks;
         };
@@ -135,18 +137,18 @@ module _ (z : Zone) (e : Entry) (r′ : Receipt) (low : 0 < e .lot) (high : e .l
         frozen = λ x q v.
             omega (
               arith,
-              booked (z .accounts) r e r′ funded x q .frozen,
+              booked (z .accounts) f e (recordOf r′) funded x q .frozen,
               G .frozen x q v,
               heldSum-put x (z .receipts) (e .lot) r′ low (rw (G .sized .receipts) high),
             );
-        total = G .total ∙ sym (total-moved (z .accounts) r e r′ funded);
+        total = G .total ∙ sym (total-after (z .accounts) f e (recordOf r′) funded);
         limit = G .limit;
       }
 
-module _ (z : Zone) (n : ℕ) (e : Entry) (r′ : Receipt) (low : 0 < n) (high : n ≤ 128) (G : Good z)
-    (F : Fit (z .accounts) n (receiptAt (z .receipts) n) e r′) where
-  pub fit-lot : Fit (z .accounts) (e .lot) (receiptAt (z .receipts) (e .lot)) e r′
-  fit-lot = subst (λ (k : ℕ). Fit (z .accounts) k (receiptAt (z .receipts) k) e r′) (sym (F .entry .lot)) F
+module _ (z : Zone) (n : ℕ) (e : Entry) (r′ : Receipt) (low : 0 < n) (high : n ≤ receiptCount) (G : Good z)
+    (F : Fit (z .accounts) n (recordAt z n) e r′) where
+  pub fit-lot : Fit (z .accounts) (e .lot) (recordAt z (e .lot)) e r′
+  fit-lot = subst (λ (k : ℕ). Fit (z .accounts) k (recordAt z k) e r′) (sym (F .entry .lot)) F
 
-  pub good-stays : Good (happen z e r′)
+  pub good-stays : Good (posted z e r′)
   good-stays = stays z e r′ (rw (F .entry .lot) low) (rw (F .entry .lot) high) G fit-lot

@@ -2,46 +2,46 @@
 -- Assumes nothing.
 use mathlib.Core.Bool.{true}
 use mathlib.Core.Path.{_≡_, refl, ap, _∙_}
-use Prim.Native.Nat.{ℕ, suc, _-_, _^_, _≤_, _<_}
+use Prim.Native.Nat.{ℕ, suc, _-_, _≤_, _<_}
 use native.Mathlib.Omega.{arith}
 use Rattle.units.specs.declared.Fen.{Fen}
+use Rattle.units.specs.Ranges.{accountCount, moneyLimit, lastDay}
 use Rattle.zone.specs.declared.Zone.{Zone}
 use Rattle.zone.specs.Held.{heldSum, allMoney}
 use Rattle.zone.specs.Laws.Facts.{none-valid}
 use Rattle.zone.specs.Laws.Tests.{InRange}
 use Rattle.zone.specs.Laws.Valid.{ValidZone, zone-in, zone-valid}
 use Rattle.zone.specs.Record.{recordOf}
-use Rattle.zone.specs.Valid.{noReceipt, all, askOk, recordValid, validZone}
+use Rattle.zone.specs.Valid.{noReceipt, noAsk, all, askOk, recordValid, validZone, Sized}
 use Rattle.rules.specs.Laws.Moves.{frozen-index, at-most}
 use Rattle.rules.specs.Laws.Tables.{all-nth}
-use Rattle.rules.specs.Sized.{Sized}
 use Rattle.rules.specs.Tables.{nth}
-use Rattle.rules.specs.View.{freeAt, frozenAt, receiptAt, askAt}
+use Rattle.rules.specs.View.{freeAt, frozenAt, receiptAt, recordAt, askAt}
 
 pub record Good (z : Zone) : Type 0 where
   pub sized : Sized z
-  pub day : InRange 1 30000 (z .day)
+  pub day : InRange 1 lastDay (z .day)
   pub asks : all askOk (z .asks) ≡ true
   pub records : all (λ r. recordValid (recordOf r)) (z .receipts) ≡ true
-  pub frozen : (x : ℕ) → 0 < x → x ≤ 96 → frozenAt (z .accounts) x .0 ≡ heldSum recordOf x (z .receipts)
+  pub frozen : (x : ℕ) → 0 < x → x ≤ accountCount → frozenAt (z .accounts) x .0 ≡ heldSum recordOf x (z .receipts)
   pub total : z .total .0 ≡ allMoney (z .accounts)
-  pub limit : z .total .0 ≤ 10 ^ 15
+  pub limit : z .total .0 ≤ moneyLimit
 
 -- each receipt of a good zone, nobody's too, has a valid record
-pub valid-at : (z : Zone) → Good z → (n : ℕ) → recordValid (recordOf (receiptAt (z .receipts) n)) ≡ true
+pub valid-at : (z : Zone) → Good z → (n : ℕ) → recordValid (recordAt z n) ≡ true
 unfolding receiptAt
 valid-at z G n = all-nth (λ r. recordValid (recordOf r)) noReceipt (z .receipts) n none-valid (G .records)
 
 -- each ask is none or a price
 pub ask-at : (z : Zone) → Good z → (n : ℕ) → askOk (askAt (z .asks) n) ≡ true
 unfolding askAt askOk
-ask-at z G n = all-nth askOk (record { 0 = 0 }) (z .asks) n refl (G .asks)
+ask-at z G n = all-nth askOk noAsk (z .asks) n refl (G .asks)
 
--- no sum of money of a good zone passes 10^15
-pub all-in : (z : Zone) → Good z → allMoney (z .accounts) ≤ 10 ^ 15
+-- no sum of money of a good zone passes the limit
+pub all-in : (z : Zone) → Good z → allMoney (z .accounts) ≤ moneyLimit
 all-in z G = omega (arith, G .total, G .limit)
 
-pub free-in : (z : Zone) → Good z → (a : ℕ) → freeAt (z .accounts) a .0 ≤ 10 ^ 15
+pub free-in : (z : Zone) → Good z → (a : ℕ) → freeAt (z .accounts) a .0 ≤ moneyLimit
 free-in z G a = omega (arith, all-in z G, at-most (z .accounts) a)
 
 -- ── The test and the facts ─────────────────────────────────────────────────────────────────────

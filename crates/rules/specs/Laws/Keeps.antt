@@ -9,21 +9,23 @@ use native.Mathlib.Omega.{arith}
 use borrow.Author.Tests.{ltb-false, eqb-false}
 use lib.Dec.{eqb}
 use lib.ListN.{length}
+use Rattle.units.specs.Payments.{fen}
+use Rattle.units.specs.Ranges.{accountCount, lastDay}
 use Rattle.zone.specs.declared.Zone.{Zone}
 use Rattle.zone.specs.Laws.Tests.{InRange, range-in}
 use Rattle.zone.specs.Valid.{all, askOk}
 use Rattle.rules.specs.declared.Call.{Call}
 use Rattle.rules.specs.declared.Entry.{Entry}
 use Rattle.rules.specs.Effects.{opening, ending}
-use Rattle.rules.specs.Events.{happen, Done}
+use Rattle.rules.specs.Events.{posted, Done}
 use Rattle.rules.specs.Laws.Chain.{Chain, Taken, walk}
 use Rattle.rules.specs.Laws.Good.{Good}
 use Rattle.rules.specs.Laws.Kinds.{withKind}
 use Rattle.rules.specs.Laws.Links.{last-good}
-use Rattle.rules.specs.Laws.Moves.{frozen-give, frozen-take, length-give, length-take, all-give, all-take}
+use Rattle.rules.specs.Laws.Moves.{frozen-credit, frozen-debit, length-credit, length-debit, all-credit, all-debit}
 use Rattle.rules.specs.Laws.Passed.{PassedAt, ranges}
 use Rattle.rules.specs.Laws.Tables.{length-put, all-put, special, among-none}
-use Rattle.rules.specs.Numbers.{wrongPhase, noMoney, aboveLimit}
+use Rattle.rules.specs.Numbers.{wrongPhase, lacksMoney, aboveLimit}
 use Rattle.rules.specs.Tables.{among}
 use Rattle.rules.specs.View.{freeAt, viewOf}
 
@@ -80,7 +82,7 @@ ended c z =
 
 -- an event does not move the clock
 pub chain-day : {c : Call} {lo : ℕ} {z : Zone} {es : List Entry} {last : Zone} → Chain c lo z es last → last .day ≡ z .day
-unfolding happen
+unfolding posted
 chain-day {z = z} t = walk (λ y. y .day ≡ z .day) (λ y n e r a h v q i. i) t refl
 
 -- ── The opening of a good zone ─────────────────────────────────────────────────────────────────
@@ -92,39 +94,39 @@ module _ (z : Zone) (G : Good z) (c : Call) where
   paid-in : Opens 1
   unfolding opening viewOf aboveLimit
   paid-in P =
-      let a : InRange 1 96 (c .account) = range-in (ranges P .0) in
+      let a : InRange 1 accountCount (c .account) = range-in (ranges P .0) in
       let i : c .account ≤ length (z .accounts) = rw (G .sized .accounts) (a .high) in
       record {
         sized = record {
-          accounts = length-give (z .accounts) (c .account) (c .amount) ∙ G .sized .accounts;
+          accounts = length-credit (z .accounts) (c .account) (fen (c .amount)) ∙ G .sized .accounts;
           receipts = G .sized .receipts;
           asks = G .sized .asks;
         };
         day = G .day;
         asks = G .asks;
         records = G .records;
-        frozen = λ x p q. frozen-give (z .accounts) x (c .account) p i (c .amount) ∙ G .frozen x p q;
-        total = omega (arith, G .total, all-give (z .accounts) (c .account) (c .amount) (a .low) i);
+        frozen = λ x p q. frozen-credit (z .accounts) x (c .account) p i (fen (c .amount)) ∙ G .frozen x p q;
+        total = omega (arith, G .total, all-credit (z .accounts) (c .account) (fen (c .amount)) (a .low) i);
         limit = ltb-false _ _ (P .limit);
       }
 
   taken-out : Opens 2
-  unfolding opening viewOf noMoney
+  unfolding opening viewOf lacksMoney
   taken-out P =
-      let a : InRange 1 96 (c .account) = range-in (ranges P .0) in
+      let a : InRange 1 accountCount (c .account) = range-in (ranges P .0) in
       let i : c .account ≤ length (z .accounts) = rw (G .sized .accounts) (a .high) in
       let m : c .amount ≤ freeAt (z .accounts) (c .account) .0 = ltb-false _ _ (P .money) in
       record {
         sized = record {
-          accounts = length-take (z .accounts) (c .account) (c .amount) ∙ G .sized .accounts;
+          accounts = length-debit (z .accounts) (c .account) (fen (c .amount)) ∙ G .sized .accounts;
           receipts = G .sized .receipts;
           asks = G .sized .asks;
         };
         day = G .day;
         asks = G .asks;
         records = G .records;
-        frozen = λ x p q. frozen-take (z .accounts) x (c .account) p i (c .amount) ∙ G .frozen x p q;
-        total = omega (arith, G .total, all-take (z .accounts) (c .account) (c .amount) (a .low) i m);
+        frozen = λ x p q. frozen-debit (z .accounts) x (c .account) p i (fen (c .amount)) ∙ G .frozen x p q;
+        total = omega (arith, G .total, all-debit (z .accounts) (c .account) (fen (c .amount)) (a .low) i m);
         limit = omega (arith, G .limit);
       }
 
@@ -172,7 +174,7 @@ module _ (z last : Zone) (same : last .day ≡ z .day) (G : Good last) (c : Call
   night : Ends 15
   unfolding ending all askOk wrongPhase viewOf
   night P =
-      let n : z .day ≢ 30000 = eqb-false _ _ (neither (not (z .afternoon)) (eqb (z .day) 30000) (P .phase)) in
+      let n : z .day ≢ lastDay = eqb-false _ _ (neither (not (z .afternoon)) (eqb (z .day) lastDay) (P .phase)) in
       record {
         sized = record { accounts = G .sized .accounts; receipts = G .sized .receipts; asks = refl };
         day = omega (arith, G .day);

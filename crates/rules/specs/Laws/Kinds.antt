@@ -24,7 +24,7 @@ withKind c k =
       weight = c .weight;
     }
 
--- P at each kind of document 01, "Calls", and at the numbers that are no kind
+-- P at each kind, and at the numbers that are none
 pub record ByKind (P : ℕ → Type 0) : Type 0 where
   pub payIn : P 1
   pub takeOut : P 2

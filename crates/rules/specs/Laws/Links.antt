@@ -4,32 +4,32 @@ use mathlib.Core.Bool.{true, false, true≢false}
 use mathlib.Core.List.{List, [], _∷_}
 use mathlib.Core.Path.{_≡_, refl, sym, _∙_}
 use Prim.Native.Nat.{ℕ, suc, _≤_, _<_}
-use Rattle.units.specs.Ranges.{within}
+use Rattle.units.specs.Ranges.{within, receiptCount, lastDay}
 use Rattle.zone.specs.declared.Receipt.{Receipt}
+use Rattle.zone.specs.declared.Record.{Record}
 use Rattle.zone.specs.declared.Zone.{Zone}
 use Rattle.zone.specs.Laws.Tests.{InRange}
 use Rattle.zone.specs.Record.{recordOf}
 use Rattle.zone.specs.Valid.{recordValid}
 use Rattle.rules.specs.declared.Call.{Call}
 use Rattle.rules.specs.declared.Entry.{Entry}
-use Rattle.rules.specs.declared.Step.{Step}
-use Rattle.rules.specs.declared.Step.the-variants.{Refused, NoEvent, Event}
-use Rattle.rules.specs.Effects.{ruleOf, ruleAt, noRule}
-use Rattle.rules.specs.Events.{happen, after}
+use Rattle.rules.specs.declared.AtLot.{AtLot}
+use Rattle.rules.specs.declared.AtLot.the-variants.{NoEvent, Event}
+use Rattle.rules.specs.Effects.{ruleOf, ruleAt, sweeps, noRule}
+use Rattle.rules.specs.Events.{posted, afterLot}
 use Rattle.rules.specs.Laws.Chain.{none, on-event, Visit, swept, named, Chain, stop, link}
 use Rattle.rules.specs.Laws.Fit.{Fit, funded, fit-lot, good-stays}
 use Rattle.rules.specs.Laws.Funded.{Funded}
 use Rattle.rules.specs.Laws.Good.{Good, valid-at, ask-at}
 use Rattle.rules.specs.Laws.Kinds.{withKind, ByKind, by-kind}
-use Rattle.rules.specs.Laws.Offers.{Fits, register-fit, list-fit, withdrawListing-fit, limitBid-fit, marketBid-fit, withdrawBid-fit, quote-fit, dayClose-fit}
+use Rattle.rules.specs.Laws.Offers.{FitsAt, register-fit, list-fit, withdrawListing-fit, limitBid-fit, marketBid-fit, withdrawBid-fit, quote-fit, dayClose-fit}
 use Rattle.rules.specs.Laws.Passed.{PassedAt, kind-in}
 use Rattle.rules.specs.Laws.Tables.{among-each}
 use Rattle.rules.specs.Laws.Trades.{lodge-fit, close-fit, payFirst-fit, invoice-fit, confirm-fit}
-use Rattle.rules.specs.Tables.{among}
-use Rattle.rules.specs.View.{receiptAt}
+use Rattle.rules.specs.View.{recordAt}
 
 -- a kind that does not go through all lots has passed the tests at the lot it visits
-pub tested : {c : Call} {z : Zone} {n : ℕ} → among (c .kind) (9 ∷ 11 ∷ 15 ∷ []) ≡ false → Visit c z n → PassedAt c z n
+pub tested : {c : Call} {z : Zone} {n : ℕ} → sweeps (c .kind) ≡ false → Visit c z n → PassedAt c z n
 tested e (swept h) = absurd (true≢false (sym h ∙ e))
 tested e (named q P) = P
 
@@ -39,37 +39,37 @@ visit-kind {c} (swept h) = among-each (λ k. within 1 15 k ≡ true) (c .kind) (
 visit-kind (named q P) = kind-in P
 
 module _ (z : Zone) (G : Good z) (c : Call) (n : ℕ) where
-  abbrev at : Receipt
-  at = receiptAt (z .receipts) n
+  abbrev f : Record
+  f = recordAt z n
 
-  abbrev FitsAt : ℕ → Type 0
-  FitsAt k = Visit (withKind c k) z n → Fits z n (receiptAt (z .receipts) n) (ruleAt (withKind c k) z n)
+  abbrev Fitting : ℕ → Type 0
+  Fitting k = Visit (withKind c k) z n → FitsAt z n (recordAt z n) (ruleAt (withKind c k) z n)
 
-  by-rule : ByKind FitsAt
+  by-rule : ByKind Fitting
   unfolding ruleOf noRule
   by-rule =
-      let d : InRange 1 30000 (z .day) = G .day in
-      let ok : recordValid (recordOf at) ≡ true = valid-at z G n in
+      let d : InRange 1 lastDay (z .day) = G .day in
+      let ok : recordValid (recordAt z n) ≡ true = valid-at z G n in
       record {
         payIn = λ v. none;
         takeOut = λ v. none;
-        register = λ v. register-fit z d c n at ok (tested refl v);
-        list = λ v. list-fit z d c n at ok (tested refl v);
-        withdrawListing = λ v. withdrawListing-fit z d c n at ok (tested refl v);
-        limitBid = λ v. limitBid-fit z d c n at ok (tested refl v);
-        marketBid = λ v. marketBid-fit z d c n at ok (ask-at z G (recordOf at .contract)) (tested refl v);
-        withdrawBid = λ v. withdrawBid-fit z d c n at ok (tested refl v);
-        quote = λ v. quote-fit z d c n at ok;
-        lodge = λ v. lodge-fit z d c n at ok (tested refl v);
-        morningClose = λ v. close-fit z d c n at ok;
-        firstPayment = λ v. payFirst-fit z d c n at ok (tested refl v);
-        invoice = λ v. invoice-fit z d c n at ok (tested refl v);
-        confirm = λ v. confirm-fit z d c n at ok (tested refl v);
-        dayClose = λ v. dayClose-fit z d c n at ok;
+        register = λ v. register-fit z d c n f ok (tested refl v);
+        list = λ v. list-fit z d c n f ok (tested refl v);
+        withdrawListing = λ v. withdrawListing-fit z d c n f ok (tested refl v);
+        limitBid = λ v. limitBid-fit z d c n f ok (tested refl v);
+        marketBid = λ v. marketBid-fit z d c n f ok (ask-at z G (recordAt z n .contract)) (tested refl v);
+        withdrawBid = λ v. withdrawBid-fit z d c n f ok (tested refl v);
+        quote = λ v. quote-fit z d c n f ok;
+        lodge = λ v. lodge-fit z d c n f ok (tested refl v);
+        morningClose = λ v. close-fit z d c n f ok;
+        firstPayment = λ v. payFirst-fit z d c n f ok (tested refl v);
+        invoice = λ v. invoice-fit z d c n f ok (tested refl v);
+        confirm = λ v. confirm-fit z d c n f ok (tested refl v);
+        dayClose = λ v. dayClose-fit z d c n f ok;
         noKind = λ k h v. absurd (true≢false (sym (visit-kind v) ∙ h));
       }
 
-  pub fits : Visit c z n → Fits z n (receiptAt (z .receipts) n) (ruleAt c z n)
+  pub fits : Visit c z n → FitsAt z n (recordAt z n) (ruleAt c z n)
   fits v = by-kind by-rule (c .kind) v
 
 -- ── What is known at a link ────────────────────────────────────────────────────────────────────
@@ -78,32 +78,31 @@ module _ (z : Zone) (G : Good z) (c : Call) (n : ℕ) where
 pub record Linked (c : Call) (lo : ℕ) (z : Zone) (n : ℕ) (e : Entry) (r : Receipt) : Type 0 where
   pub low : 0 < n
   pub above : lo ≤ n
-  pub high : n ≤ 128
+  pub high : n ≤ receiptCount
   pub visit : Visit c z n
   pub rule : ruleAt c z n ≡ Event e r
   pub good : Good z
-  pub fit : Fit (z .accounts) n (receiptAt (z .receipts) n) e r
-  pub next : Good (happen z e r)
+  pub fit : Fit (z .accounts) n (recordAt z n) e r
+  pub next : Good (posted z e r)
 
-pub linked : {c : Call} {lo : ℕ} {z : Zone} (n : ℕ) (e : Entry) (r : Receipt) → 0 < n → lo ≤ n → n ≤ 128 → Visit c z n
+pub linked : {c : Call} {lo : ℕ} {z : Zone} (n : ℕ) (e : Entry) (r : Receipt) → 0 < n → lo ≤ n → n ≤ receiptCount → Visit c z n
     → ruleAt c z n ≡ Event e r → Good z → Linked c lo z n e r
 linked {c} {lo} {z} n e r a b h v q G =
-    let F : Fit (z .accounts) n (receiptAt (z .receipts) n) e r = on-event (fits z G c n v) q in
+    let F : Fit (z .accounts) n (recordAt z n) e r = on-event (fits z G c n v) q in
     record { low = a; above = b; high = h; visit = v; rule = q; good = G; fit = F; next = good-stays z n e r a h G F }
 
 -- the money of its event is there
 pub link-funded : {c : Call} {lo : ℕ} {z : Zone} {n : ℕ} {e : Entry} {r : Receipt} → Linked c lo z n e r
-    → Funded (z .accounts) (receiptAt (z .receipts) (e .lot)) e r
+    → Funded (z .accounts) (recordAt z (e .lot)) e (recordOf r)
 link-funded {z = z} {n = n} {e = e} {r = r} L =
     let q = L .fit .entry .lot in
     funded z e r (rw q (L .low)) (rw q (L .high)) (L .good) (fit-lot z n e r (L .low) (L .high) (L .good) (L .fit))
 
 -- what a visited lot leaves is good, whether it has an event or not
-pub after-good : (z : Zone) → Good z → (c : Call) (n : ℕ) → 0 < n → n ≤ 128 → Visit c z n → Good (after z (ruleAt c z n) .zone)
+pub after-good : (z : Zone) → Good z → (c : Call) (n : ℕ) → 0 < n → n ≤ receiptCount → Visit c z n → Good (afterLot z (ruleAt c z n) .zone)
 after-good z G c n a h v = go (ruleAt c z n) (fits z G c n v)
   where
-    go : (s : Step) → Fits z n (receiptAt (z .receipts) n) s → Good (after z s .zone)
-    go (Refused k) F = G
+    go : (s : AtLot) → FitsAt z n (recordAt z n) s → Good (afterLot z s .zone)
     go NoEvent F = G
     go (Event e r) F = good-stays z n e r a h G (F .is)
 
@@ -111,7 +110,7 @@ after-good z G c n a h v = go (ruleAt c z n) (fits z G c n v)
 pub record Walk (c : Call) (P : ℕ → Zone → List Entry → Zone → Type 0) : Type 0 where
   pub end : {lo : ℕ} {z : Zone} → Good z → P lo z [] z
   pub step : {lo : ℕ} {z : Zone} {es : List Entry} {last : Zone} {n : ℕ} {e : Entry} {r : Receipt} → Linked c lo z n e r
-      → P (suc n) (happen z e r) es last → P lo z (e ∷ es) last
+      → P (suc n) (posted z e r) es last → P lo z (e ∷ es) last
 
 pub good-walk : {c : Call} {P : ℕ → Zone → List Entry → Zone → Type 0} → Walk c P
     → {lo : ℕ} {z : Zone} {es : List Entry} {last : Zone} → Chain c lo z es last → Good z → P lo z es last

@@ -2,7 +2,7 @@
 -- Assumes nothing.
 use mathlib.Core.Bool.{Bool, true, false, cond}
 use mathlib.Core.List.{List, [], _∷_}
-use mathlib.Core.Path.{_≡_, refl, subst}
+use mathlib.Core.Path.{_≡_, refl, sym, _∙_, subst}
 use Prim.Native.Nat.{ℕ, suc}
 use native.Mathlib.Omega.{arith}
 use borrow.Author.Tests.{not-false}
@@ -10,13 +10,13 @@ use Rattle.units.specs.Ranges.{within}
 use Rattle.zone.specs.declared.Record.{Record}
 use Rattle.zone.specs.declared.Zone.{Zone}
 use Rattle.zone.specs.Laws.Tests.{both}
-use Rattle.zone.specs.Record.{recordOf}
 use Rattle.rules.specs.declared.Call.{Call}
 use Rattle.rules.specs.declared.View.{View}
 use Rattle.rules.specs.Laws.Kinds.{withKind}
-use Rattle.rules.specs.Numbers.{Field, values, valueAt, inRange, brackets, unusedZero, illFormed, outOfRange, wrongPhase, wrongState, inStateNamed, wrongParty, isPartyNamed, notAbove, noAsk, notPayable, noMoney, aboveLimit, aboveInvoice, number}
-use Rattle.rules.specs.Outcome.{numberOf}
-use Rattle.rules.specs.View.{viewOf, receiptAt}
+use Rattle.rules.specs.Laws.Steps.{step-number}
+use Rattle.rules.specs.Numbers.{Field, values, valueAt, inRange, brackets, unusedZero, illFormed, outOfRange, wrongPhase, wrongState, inStateNamed, wrongParty, isPartyNamed, notAbove, lacksAsk, notPayable, lacksMoney, aboveLimit, aboveInvoice, firstNumber}
+use Rattle.rules.specs.Steps.{numberOn}
+use Rattle.rules.specs.View.{viewOf, recordAt}
 
 pub record Passed (v : View) (c : Call) (f : Record) : Type 0 where
   pub form : illFormed c ≡ false
@@ -25,9 +25,9 @@ pub record Passed (v : View) (c : Call) (f : Record) : Type 0 where
   pub state : wrongState c f ≡ false
   pub party : wrongParty c f ≡ false
   pub height : notAbove c f ≡ false
-  pub ask : noAsk v c ≡ false
+  pub ask : lacksAsk v c ≡ false
   pub payable : notPayable v c f ≡ false
-  pub money : noMoney v c f ≡ false
+  pub money : lacksMoney v c f ≡ false
   pub limit : aboveLimit v c ≡ false
   pub invoice : aboveInvoice c f ≡ false
 
@@ -35,8 +35,8 @@ next : {X : Type 0} (t : Bool) (n m : ℕ) → cond t (suc n) m ≡ 0 → (t ≡
 next true n m h f = absurd (omega arith)
 next false n m h f = f refl h
 
-pub passed-all : (v : View) (c : Call) (f : Record) → number v c f ≡ 0 → Passed v c f
-unfolding number
+pub passed-all : (v : View) (c : Call) (f : Record) → firstNumber v c f ≡ 0 → Passed v c f
+unfolding firstNumber
 passed-all v c f h =
     next _ _ _ h λ e3 h. next _ _ _ h λ e4 h. next _ _ _ h λ e5 h. next _ _ _ h λ e6 h. next _ _ _ h λ e7 h. next _ _ _ h λ e8 h.
     next _ _ _ h λ e9 h. next _ _ _ h λ e10 h. next _ _ _ h λ e11 h. next _ _ _ h λ e12 h. next _ _ _ h λ e13 h.
@@ -56,13 +56,11 @@ passed-all v c f h =
 
 -- the tests of call c at lot n of zone z
 abbrev pub PassedAt : Call → Zone → ℕ → Type 0
-PassedAt c z n =
-    let r = receiptAt (z .receipts) n in
-    Passed (viewOf z (c .account) r) c (recordOf r)
+PassedAt c z n = Passed (viewOf z (c .account) (recordAt z n)) c (recordAt z n)
 
-pub passed-at : (z : Zone) (c : Call) → numberOf z c ≡ 0 → PassedAt c z (c .receipt)
-unfolding numberOf
-passed-at z c h = passed-all _ c _ h
+pub passed-at : (z : Zone) (c : Call) → numberOn z c ≡ 0 → PassedAt c z (c .receipt)
+unfolding numberOn
+passed-at z c h = passed-all _ c _ (sym (step-number _ c _) ∙ h)
 
 -- at a kind written out, the tests compute
 pub as-kind : {v : View} {f : Record} (c : Call) (k : ℕ) → c .kind ≡ k → Passed v c f → Passed v (withKind c k) f

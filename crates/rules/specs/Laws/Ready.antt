@@ -3,11 +3,12 @@
 use mathlib.Core.Bool.{true, not}
 use mathlib.Core.List.{[], _∷_}
 use mathlib.Core.Path.{_≡_}
-use Prim.Native.Nat.{ℕ, _+_, _-_, _^_, _≤_, _<_}
+use Prim.Native.Nat.{ℕ, _+_, _^_, _≤_, _<_}
 use native.Mathlib.Omega.{arith}
 use borrow.Author.Tests.{ltb-false, eqb-false, not-true}
 use lib.Dec.{eqb}
-use Rattle.zone.specs.declared.Receipt.{Receipt}
+use Rattle.units.specs.Ranges.{accountCount, contractCount, moneyLimit}
+use Rattle.zone.specs.declared.Record.{Record}
 use Rattle.zone.specs.declared.Zone.{Zone}
 use Rattle.zone.specs.Held.{full}
 use Rattle.zone.specs.Laws.Tests.{both, InRange, range-in, price-at-most}
@@ -19,33 +20,40 @@ use Rattle.rules.specs.Laws.Good.{Good, valid-at, free-in}
 use Rattle.rules.specs.Laws.Passed.{Passed, PassedAt, as-kind, ranges, in-state}
 use Rattle.rules.specs.Laws.Receipts.{full-in}
 use Rattle.rules.specs.Laws.Tables.{among-one}
-use Rattle.rules.specs.Numbers.{noMoney, aboveLimit, aboveInvoice}
+use Rattle.rules.specs.Numbers.{lacksMoney, aboveLimit, aboveInvoice}
 use Rattle.rules.specs.Ready.{Ready, ReadyCall}
 use Rattle.rules.specs.Tables.{among}
-use Rattle.rules.specs.View.{freeAt, viewOf, receiptAt}
+use Rattle.rules.specs.View.{freeAt, viewOf, recordAt}
 
 -- at every lot of a good zone
-pub ready-at : (z : Zone) → Good z → (c : Call) (n : ℕ) → Ready (viewOf z (c .account) (receiptAt (z .receipts) n)) (receiptAt (z .receipts) n)
+pub ready-at : (z : Zone) → Good z → (c : Call) (n : ℕ) → Ready (viewOf z (c .account) (recordAt z n)) (recordAt z n)
 unfolding viewOf
-ready-at z G c n = record { valid = valid-at z G n; day = G .day .high; buyer = free-in z G (recordOf (receiptAt (z .receipts) n) .buyer) }
+ready-at z G c n =
+    record {
+      valid = valid-at z G n;
+      day = G .day .high;
+      caller = free-in z G (c .account);
+      buyer = free-in z G (recordAt z n .buyer);
+      total = G .limit;
+    }
 
 -- at the receipt that a call of number 0 names
-module _ (v : View) (c : Call) (r : Receipt) (ok : recordValid (recordOf r) ≡ true) (P : Passed v c (recordOf r)) where
+module _ (v : View) (c : Call) (f : Record) (ok : recordValid f ≡ true) (P : Passed v c f) where
   invoice-small : c .kind ≡ 13 → c .amount < 2 ^ 32
   unfolding aboveInvoice
   invoice-small e =
       let Q = as-kind c 13 e P in
-      let s : recordOf r .state ≡ 6 = among-one 6 (both (among (recordOf r .state) (6 ∷ [])) _ (in-state Q) .0) in
-      let m : c .amount ≤ full (recordOf r) .0 - recordOf r .confirmed .0 = ltb-false _ _ (Q .invoice) in
-      omega (arith, full-in (recordOf r) ok (omega arith) (omega arith))
+      let s : f .state ≡ 6 = among-one 6 (both (among (f .state) (6 ∷ [])) _ (in-state Q) .0) in
+      let m : f .confirmed .0 + c .amount ≤ full f .0 = ltb-false _ _ (Q .invoice) in
+      omega (arith, full-in f ok (omega arith) (omega arith))
 
-  invoice-pending : c .kind ≡ 14 → (recordOf r .state ≡ 6) × (0 < recordOf r .pending .0)
+  invoice-pending : c .kind ≡ 14 → (f .state ≡ 6) × (0 < f .pending .0)
   invoice-pending e =
       let Q = as-kind c 14 e P in
-      let t = both (among (recordOf r .state) (6 ∷ [])) (not (eqb (recordOf r .pending .0) 0)) (in-state Q) in
-      (among-one 6 (t .0), omega (arith, eqb-false (recordOf r .pending .0) 0 (not-true _ (t .1))))
+      let t = both (among (f .state) (6 ∷ [])) (not (eqb (f .pending .0) 0)) (in-state Q) in
+      (among-one 6 (t .0), omega (arith, eqb-false (f .pending .0) 0 (not-true _ (t .1))))
 
-  pub ready-with : ReadyCall c r
+  pub ready-with : ReadyCall c f
   ready-with =
       record {
         price = λ e. price-at-most _ (ranges (as-kind c 6 e P) .1 .1 .0);
@@ -54,18 +62,18 @@ module _ (v : View) (c : Call) (r : Receipt) (ok : recordValid (recordOf r) ≡ 
       }
 
 -- and at a lot of a good zone
-pub ready-call : (z : Zone) → Good z → (c : Call) (n : ℕ) → PassedAt c z n → ReadyCall c (receiptAt (z .receipts) n)
-ready-call z G c n P = ready-with _ c (receiptAt (z .receipts) n) (valid-at z G n) P
+pub ready-call : (z : Zone) → Good z → (c : Call) (n : ℕ) → PassedAt c z n → ReadyCall c (recordAt z n)
+ready-call z G c n P = ready-with _ c (recordAt z n) (valid-at z G n) P
 
 -- ── The openings ───────────────────────────────────────────────────────────────────────────────
 
 pub record MoneyIn (z : Zone) (c : Call) : Type 0 where
-  pub account : InRange 1 96 (c .account)
+  pub account : InRange 1 accountCount (c .account)
   pub amount : InRange 1 (10 ^ 12) (c .amount)
-  pub limit : z .total .0 + c .amount ≤ 10 ^ 15
+  pub limit : z .total .0 + c .amount ≤ moneyLimit
 
 pub record MoneyOut (z : Zone) (c : Call) : Type 0 where
-  pub account : InRange 1 96 (c .account)
+  pub account : InRange 1 accountCount (c .account)
   pub free : c .amount ≤ freeAt (z .accounts) (c .account) .0
 
 module _ (z : Zone) (c : Call) (P : PassedAt c z (c .receipt)) where
@@ -76,10 +84,10 @@ module _ (z : Zone) (c : Call) (P : PassedAt c z (c .receipt)) where
       record { account = range-in (ranges Q .0); amount = range-in (ranges Q .1 .0); limit = ltb-false _ _ (Q .limit) }
 
   pub money-out : c .kind ≡ 2 → MoneyOut z c
-  unfolding viewOf noMoney
+  unfolding viewOf lacksMoney
   money-out e =
       let Q = as-kind c 2 e P in
       record { account = range-in (ranges Q .0); free = ltb-false _ _ (Q .money) }
 
-  pub quoted-contract : c .kind ≡ 9 → InRange 1 8 (c .contract)
+  pub quoted-contract : c .kind ≡ 9 → InRange 1 contractCount (c .contract)
   quoted-contract e = range-in (ranges (as-kind c 9 e P) .0)

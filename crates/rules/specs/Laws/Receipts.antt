@@ -1,60 +1,29 @@
--- What is known of a receipt whose record is valid, by the number of its lot's state; and what its lot holds.
+-- What is known of a valid record, by the number of its lot's state; and what its lot holds.
 -- Assumes nothing.
 use mathlib.Core.Bool.{true, _||_}
 use mathlib.Core.Logic.{_≢_}
-use mathlib.Core.Path.{_≡_, refl, sym, ap, _∙_, subst₂}
+use mathlib.Core.Path.{_≡_, ap}
 use Prim.Native.Nat.{ℕ, _+_, _-_, _≤_}
 use native.Mathlib.Omega.{arith}
 use borrow.Author.Tests.{eq-eqb}
 use lib.Dec.{eqb}
 use Rattle.units.specs.declared.Fen.{Fen}
-use Rattle.units.specs.declared.Kilograms.{Kilograms}
-use Rattle.units.specs.Laws.Bounds.{first-rest, part-le-rest}
-use Rattle.units.specs.Payments.{fullPayment, firstPayment, restPayment, partPayment}
-use Rattle.units.specs.Ranges.{within}
-use Rattle.zone.specs.declared.Lot.{Lot}
-use Rattle.zone.specs.declared.Lot.the-variants.{Idle, Listed, BidStands, Struck, Lodged, Settled, FirstPaid, PenaltyDue}
-use Rattle.zone.specs.declared.Receipt.{Receipt}
+use Rattle.units.specs.Laws.Bounds.{mostFull, first-rest, part-le-rest}
+use Rattle.units.specs.Payments.{firstPayment, partPayment, perReceipt}
+use Rattle.units.specs.Ranges.{within, accountCount}
 use Rattle.zone.specs.declared.Record.{Record}
 use Rattle.zone.specs.Held.{full, rest, held, heldBy}
 use Rattle.zone.specs.Laws.Facts.{Owned, InvoicesIn, Known, known, owner-some, bounds}
 use Rattle.zone.specs.Laws.Held.{share-same, full-ge, full-le}
 use Rattle.zone.specs.Laws.Lots.{ListingIn, BidIn, TradeIn}
 use Rattle.zone.specs.Laws.Tests.{InRange, inside}
-use Rattle.zone.specs.Record.{recordOf, recordAs, listingOf, bidOf, tradeOf, invoicesOf}
+use Rattle.zone.specs.Record.{listingOf, bidOf, tradeOf, invoicesOf}
 use Rattle.zone.specs.Valid.{recordValid}
-
--- a receipt and its record have one owner and one weight
-both-of : (o : ℕ) (w : Kilograms) (lot : Lot) → (recordAs o w lot .owner ≡ o) × (recordAs o w lot .weight ≡ w)
-both-of o w Idle = (refl, refl)
-both-of o w (Listed l) = (refl, refl)
-both-of o w (BidStands l b) = (refl, refl)
-both-of o w (Struck t) = (refl, refl)
-both-of o w (Lodged t) = (refl, refl)
-both-of o w (Settled t) = (refl, refl)
-both-of o w (FirstPaid t i) = (refl, refl)
-both-of o w (PenaltyDue s b d) = (refl, refl)
-
-pub owner-of : (r : Receipt) → recordOf r .owner ≡ r .owner
-unfolding recordOf
-owner-of r = both-of (r .owner) (r .weight) (r .lot) .0
-
-pub weight-of : (r : Receipt) → recordOf r .weight ≡ r .weight
-unfolding recordOf
-weight-of r = both-of (r .owner) (r .weight) (r .lot) .1
-
--- the full payment does not change with the receipt's state
-pub full-of : (r : Receipt) → fullPayment (recordOf r .price) (recordOf r .basis) (r .weight) ≡ full (recordOf r)
-unfolding full
-full-of r = ap (λ w. fullPayment (recordOf r .price) (recordOf r .basis) w) (sym (weight-of r))
-
-pub rest-of : (r : Receipt) → restPayment (fullPayment (recordOf r .price) (recordOf r .basis) (r .weight)) .0 ≡ rest (recordOf r) .0
-rest-of r = ap (λ (F : Fen). restPayment F .0) (full-of r)
 
 -- both parties of a trade are accounts
 pub record Parties (f : Record) : Type 0 where
-  pub seller : InRange 1 96 (f .seller)
-  pub buyer : InRange 1 96 (f .buyer)
+  pub seller : InRange 1 accountCount (f .seller)
+  pub buyer : InRange 1 accountCount (f .buyer)
 
 -- ── By state ───────────────────────────────────────────────────────────────────────────────────
 
@@ -62,10 +31,10 @@ module _ (f : Record) (ok : recordValid f ≡ true) where
   used : 1 ≤ f .state → Known f
   used s = known f ok (owner-some f ok s)
 
-  pub seller-in : 1 ≤ f .state → InRange 1 96 (f .seller)
+  pub seller-in : 1 ≤ f .state → InRange 1 accountCount (f .seller)
   seller-in s = used s .fields .listing .seller .yes (inside 1 7 (f .state) s (used s .fields .state))
 
-  pub buyer-in : 2 ≤ f .state → InRange 1 96 (f .buyer)
+  pub buyer-in : 2 ≤ f .state → InRange 1 accountCount (f .buyer)
   buyer-in s =
       let K : Known f = used (omega arith) in
       K .fields .bid .buyer .yes (inside 2 7 (f .state) s (K .fields .state))
@@ -101,31 +70,29 @@ module _ (f : Record) (ok : recordValid f ≡ true) where
   pub invoices-in : f .state ≡ 6 → InvoicesIn (full f) (invoicesOf f)
   invoices-in s = used (omega arith) .invoices .yes (eq-eqb _ _ s)
 
-  -- full payment is at least 100 and at most 1,500,000,000 fen
-  pub full-in : 2 ≤ f .state → f .state ≤ 6 → InRange 100 1500000000 (full f .0)
+  -- full payment is not nothing, and at most the largest
+  pub full-in : 2 ≤ f .state → f .state ≤ 6 → InRange 100 mostFull (full f .0)
   full-in s t = record { low = full-ge f ok (omega arith); high = full-le f (bounds f ok) }
 
 -- whose the receipt is
-module _ (r : Receipt) (ok : recordValid (recordOf r) ≡ true) where
-  pub owned-in : 1 ≤ recordOf r .state → Owned (r .owner) (r .weight)
-  owned-in s = subst₂ Owned (owner-of r) (weight-of r) (used (recordOf r) ok s .fields .owned)
+module _ (f : Record) (ok : recordValid f ≡ true) where
+  pub owned-in : 1 ≤ f .state → Owned (f .owner) (f .weight)
+  owned-in s = used f ok s .fields .owned
 
   -- a registered receipt in any state
-  pub owned-some : r .owner ≢ 0 → Owned (r .owner) (r .weight)
-  owned-some n = subst₂ Owned (owner-of r) (weight-of r) (known (recordOf r) ok (λ e. n (sym (owner-of r) ∙ e)) .fields .owned)
+  pub owned-some : f .owner ≢ 0 → Owned (f .owner) (f .weight)
+  owned-some n = known f ok n .fields .owned
 
-  pub sellers : 1 ≤ recordOf r .state → recordOf r .state ≤ 4 → r .owner ≡ recordOf r .seller
-  sellers s t =
-      sym (owner-of r)
-      ∙ used (recordOf r) ok s .fields .owner .is-seller (ap (λ b. b || eqb (recordOf r .state) 7) (inside 1 4 (recordOf r .state) s t))
+  pub sellers : 1 ≤ f .state → f .state ≤ 4 → f .owner ≡ f .seller
+  sellers s t = used f ok s .fields .owner .is-seller (ap (λ b. b || eqb (f .state) 7) (inside 1 4 (f .state) s t))
 
-  pub buyers : 5 ≤ recordOf r .state → recordOf r .state ≤ 6 → r .owner ≡ recordOf r .buyer
-  buyers s t = sym (owner-of r) ∙ used (recordOf r) ok (omega arith) .fields .owner .is-buyer (inside 5 6 (recordOf r .state) s t)
+  pub buyers : 5 ≤ f .state → f .state ≤ 6 → f .owner ≡ f .buyer
+  buyers s t = used f ok (omega arith) .fields .owner .is-buyer (inside 5 6 (f .state) s t)
 
 -- ── What a lot holds ───────────────────────────────────────────────────────────────────────────
 
 module _ (f : Record) where
-  pub held-deposit : 2 ≤ f .state → f .state ≤ 4 → held f .0 ≡ 5000000
+  pub held-deposit : 2 ≤ f .state → f .state ≤ 4 → held f .0 ≡ perReceipt
   unfolding held
   held-deposit s t = rw (inside 2 4 (f .state) s t)
 
@@ -149,7 +116,7 @@ abbrev pub partOf : Record → Fen
 partOf f = partPayment (full f) (f .confirmed) (f .paid) (f .pending)
 
 pub record PartPaid (f : Record) : Type 0 where
-  pub full-in : InRange 100 1500000000 (full f .0)
+  pub full-in : InRange 100 mostFull (full f .0)
   pub invoices : InvoicesIn (full f) (invoicesOf f)
   pub first : firstPayment (full f) .0 + rest f .0 ≡ full f .0
   pub holds : held f .0 ≡ rest f .0 - f .paid .0
@@ -157,7 +124,7 @@ pub record PartPaid (f : Record) : Type 0 where
 
 pub part-paid : (f : Record) → recordValid f ≡ true → f .state ≡ 6 → PartPaid f
 part-paid f ok s =
-    let R : InRange 100 1500000000 (full f .0) = full-in f ok (omega arith) (omega arith) in
+    let R : InRange 100 mostFull (full f .0) = full-in f ok (omega arith) (omega arith) in
     let I : InvoicesIn (full f) (invoicesOf f) = invoices-in f ok s in
     record {
       full-in = R;
