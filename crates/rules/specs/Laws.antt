@@ -13,3 +13,4 @@ pub mod Trades
 pub mod Links
 pub mod Keeps
 pub mod Ready
+pub mod Cases

@@ -1,0 +1,190 @@
+// The code of the rules of registration, listings and bids: kinds 3 to 9 and 15.
+ghost use mathlib.Core.Bool.{true};
+ghost use mathlib.Core.Path.{_≡_};
+ghost use Prim.Native.Nat.{_≤_};
+ghost use Rattle.units.specs.Ranges.{mostPrice, lastDay};
+ghost use Rattle.zone.specs.Valid.{recordValid};
+ghost use Rattle.rules.specs.Effects.{dueDay, bidStands, bidStruck, meetsAsk, register, listFor, withdrawListing, limitBid, marketBid, withdrawBid, quoteLot, dayCloseLot};
+ghost use Rattle.rules.specs.Ready.{Ready};
+use rules::AtLot;
+use rules::Call;
+use rules::Entry;
+use rules::OUTCOME_BID_STANDS;
+use rules::OUTCOME_BID_WITHDRAWN;
+use rules::OUTCOME_ENDED;
+use rules::OUTCOME_LISTED;
+use rules::OUTCOME_REGISTERED;
+use rules::OUTCOME_STRUCK;
+use rules::View;
+use units::Basis;
+use units::Kilograms;
+use units::YuanPerTonne;
+use zone::Bid;
+use zone::Listing;
+use zone::Lot;
+use zone::Receipt;
+use zone::Record;
+use zone::Trade;
+
+// ── Registration and listings ───────────────────────────────────────────────────────────────────
+
+pub fn register_at(c: Call, n: u8) -> AtLot
+    ensures { λ x. ⌜ x ≡ register c n ⌝ }
+{
+    let e = rules::by_owner(n, OUTCOME_REGISTERED, c.account);
+    AtLot::Event(
+        e,
+        Receipt {
+            owner: c.account,
+            weight: Kilograms(c.weight),
+            lot: Lot::Idle,
+        },
+    )
+}
+
+pub fn list_at(c: Call, n: u8, f: Record) -> AtLot
+    ensures { λ x. ⌜ x ≡ listFor c n f ⌝ }
+{
+    let e = rules::by_owner(n, OUTCOME_LISTED, c.account);
+    let l = Listing {
+        seller: c.account,
+        contract: c.contract,
+        days: c.days,
+        basis: Basis(c.basis),
+    };
+    AtLot::Event(e, rules::with_lot(f, Lot::Listed(l)))
+}
+
+pub fn end_listing(n: u8, f: Record) -> AtLot
+    ensures { λ x. ⌜ x ≡ withdrawListing n f ⌝ }
+{
+    AtLot::Event(
+        rules::by_owner(n, OUTCOME_ENDED, f.seller),
+        rules::with_lot(f, Lot::Idle),
+    )
+}
+
+// A day close ends a listing, whether a bid stands on it or not.
+pub fn day_close_at(n: u8, f: Record) -> AtLot
+    requires { ⌜ recordValid f ≡ true ⌝ }
+    ensures { λ x. ⌜ x ≡ dayCloseLot n f ⌝ }
+{
+    let r = zone::receipt_of(f);
+    let lot = r.lot;
+    match lot {
+        Lot::Listed(_) | Lot::BidStands(_, _) => end_listing(n, f),
+        _ => AtLot::NoEvent,
+    }
+}
+
+// ── Bids ────────────────────────────────────────────────────────────────────────────────────────
+
+fn due_day(v: View, days: u8) -> u16
+    requires { ⌜ (v .day ≤ lastDay) × (days ≤ 3) ⌝ }
+    ensures { λ x. ⌜ x ≡ dueDay v days ⌝ }
+{
+    if v.afternoon & (days == 0) {
+        v.day + 1
+    } else {
+        v.day + (days as u16)
+    }
+}
+
+fn stand(n: u8, f: Record, b: Bid) -> AtLot
+    ensures { λ x. ⌜ x ≡ bidStands n f b ⌝ }
+{
+    let e = Entry {
+        lot: n,
+        outcome: OUTCOME_BID_STANDS,
+        from: b.buyer,
+        to: f.seller,
+        number: b.price.0,
+    };
+    AtLot::Event(
+        e,
+        rules::with_lot(f, Lot::BidStands(zone::listing_of(f), b)),
+    )
+}
+
+fn strike(v: View, n: u8, f: Record, b: Bid) -> AtLot
+    requires { ⌜ Ready v f ⌝ }
+    ensures { λ x. ⌜ x ≡ bidStruck v n f b ⌝ }
+{
+    let e = Entry {
+        lot: n,
+        outcome: OUTCOME_STRUCK,
+        from: b.buyer,
+        to: f.seller,
+        number: b.price.0,
+    };
+    let l = zone::listing_of(f);
+    let t = Trade {
+        listing: l,
+        bid: b,
+        due: due_day(v, f.days),
+    };
+    AtLot::Event(e, rules::with_lot(f, Lot::Struck(t)))
+}
+
+fn meets_ask(v: View, price: YuanPerTonne) -> bool
+    ensures { λ x. ⌜ x ≡ meetsAsk v price ⌝ }
+{
+    !(v.ask.0 == 0) & (v.ask.0 <= price.0)
+}
+
+pub fn limit_bid(v: View, c: Call, n: u8, f: Record) -> AtLot
+    requires { ⌜ Ready v f × (c .amount ≤ mostPrice) ⌝ }
+    ensures { λ x. ⌜ x ≡ limitBid v c n f ⌝ }
+{
+    let price = YuanPerTonne(c.amount as u32);
+    let b = Bid {
+        buyer: c.account,
+        price: price,
+    };
+    if meets_ask(v, price) {
+        strike(v, n, f, b)
+    } else {
+        stand(n, f, b)
+    }
+}
+
+pub fn market_bid(v: View, c: Call, n: u8, f: Record) -> AtLot
+    requires { ⌜ Ready v f ⌝ }
+    ensures { λ x. ⌜ x ≡ marketBid v c n f ⌝ }
+{
+    let ask = v.ask;
+    let b = Bid {
+        buyer: c.account,
+        price: ask,
+    };
+    strike(v, n, f, b)
+}
+
+pub fn withdraw_bid(n: u8, f: Record) -> AtLot
+    ensures { λ x. ⌜ x ≡ withdrawBid n f ⌝ }
+{
+    AtLot::Event(
+        rules::by_buyer(n, OUTCOME_BID_WITHDRAWN, f, 0),
+        rules::with_lot(f, Lot::Listed(zone::listing_of(f))),
+    )
+}
+
+// A standing bid of the quoted contract that meets the new ask is struck at its own price.
+pub fn quote_at(v: View, c: Call, n: u8, f: Record) -> AtLot
+    requires { ⌜ Ready v f ⌝ }
+    ensures { λ x. ⌜ x ≡ quoteLot v c n f ⌝ }
+{
+    let r = zone::receipt_of(f);
+    let lot = r.lot;
+    match lot {
+        Lot::BidStands(l, b) => {
+            let price = b.price;
+            if (l.contract == c.contract) & meets_ask(v, price) {
+                strike(v, n, f, b)
+            } else {
+                AtLot::NoEvent
+            }
+        }
+        _ => AtLot::NoEvent,
+    }
+}
