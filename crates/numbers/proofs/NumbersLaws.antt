@@ -1,22 +1,22 @@
 -- The tables of the numbers, at every kind.
 -- Assumes nothing.
-use mathlib.Core.Path.{_≡_, refl, sym, subst}
 use mathlib.Core.Bool.{Bool, true, false, false≢true, cond, not, _&&_, _||_, and-true, and-false, and-assoc, or-false}
 use mathlib.Core.List.{List, [], _∷_}
-use Prim.Native.Nat.{ℕ, zero, suc, _≤_, _<_, _+_, _-_}
+use mathlib.Core.Path.{_≡_, refl}
+use Prim.Native.Nat.{ℕ, zero, suc, _≤_, _<_}
+use native.Mathlib.Decide.{decLe, ℕ-discrete}
 use native.Mathlib.Omega.{arith}
-use borrow.Author.Tests.{ne-eqb, lt-leb, lt-ltb, le-ltb, ltb-true, ltb-false, not-false}
-use lib.Dec.{eqb, leb, ltb, leb·zero, leb·suc-zero, eqb·suc-zero}
+use borrow.Author.Tests.{ne-eqb, lt-leb}
+use lib.Dec.{eqb, leb, leb·zero, leb·suc-zero, eqb·suc-zero}
 use lib.IntN.{pos}
-use Rattle.units.specs.Ranges.{within, isPrice, isBasis, isWeight, isAmount}
-use Rattle.zone.specs.Valid.{isAccount, isZero}
-use Rattle.rules.specs.Numbers.{Field, brackets, isUsed, unusedZero, values, inRange, inStateNamed, isPartyNamed, illFormed, outOfRange, wrongPhase, wrongState, wrongParty, notAbove, noAsk, notPayable, noMoney, aboveLimit, aboveInvoice, number}
-use Rattle.rules.specs.Laws.Tables.{cond-or}
-use Rattle.rules.specs.Tables.{lowest}
-use Rattle.rules.specs.declared.View.{View}
+use Rattle.units.specs.Ranges.{isZero, isAccount, isReceipt, isContract, isDays, isPrice, isBasis, isWeight, isAmount}
 use Rattle.zone.specs.declared.Record.{Record}
-use Rattle.zone.specs.Laws.Tests.{price-at-most}
+use Rattle.zone.specs.Laws.Tests.{both}
 use Rattle.rules.specs.declared.Call.{Call}
+use Rattle.rules.specs.declared.View.{View}
+use Rattle.rules.specs.Laws.Tables.{cond-or}
+use Rattle.rules.specs.Numbers.{Field, brackets, isUsed, unusedZero, values, inRange, inStateNamed, isPartyNamed, firstNumber, numberRows}
+use Rattle.rules.specs.Tables.{firstThatApplies}
 
 is-zero : (n : ℕ) → eqb n 0 ≡ isZero (pos n)
 is-zero zero = refl
@@ -98,53 +98,64 @@ module _ (P : ℕ → Type 0) where
 
 -- ── The brackets ───────────────────────────────────────────────────────────────────────────────
 
+abbrev same : Bool → Bool → Bool
+same a b = cond a b (not b)
+
+same-is : (a b : Bool) → same a b ≡ true → a ≡ b
+same-is true true h = refl
+same-is true false h = absurd (false≢true h)
+same-is false true h = absurd (false≢true h)
+same-is false false h = refl
+
+-- Two tests of a kind agree: computed at the kinds, said above them.
+module _ (f g : ℕ → Bool) where
+  abbrev agree : ℕ → Bool
+  agree zero = true
+  agree (suc n) = same (f n) (g n) && agree n
+
+  agree-below : (n : ℕ) → agree n ≡ true → (k : ℕ) → k < n → f k ≡ g k
+  agree-below zero h k lt = absurd (omega arith)
+  agree-below (suc n) h k lt =
+      let t = both (same (f n) (g n)) (agree n) h in
+      last-or-below n k (same-is (f n) (g n) (t .0)) (agree-below n (t .1) k) lt
+    where
+      last-or-below : (n k : ℕ) → f n ≡ g n → (k < n → f k ≡ g k) → k < suc n → f k ≡ g k
+      last-or-below n k here below lt = go (ℕ-discrete k n)
+        where
+          go : Dec (k ≡ n) → f k ≡ g k
+          go (yes e) = rw e here
+          go (no ne) = below (omega arith)
+
+  every-kind : agree 16 ≡ true → ((n : ℕ) → 15 < n → f n ≡ g n) → (k : ℕ) → f k ≡ g k
+  every-kind h above k = go (decLe k 15)
+    where
+      go : Dec (k ≤ 15) → f k ≡ g k
+      go (yes le) = agree-below 16 h k (omega arith)
+      go (no gt) = above k (omega arith)
+
 pub account-used : (k : ℕ) → (leb 1 k && leb k 8 || eqb k 10 || leb 12 k && leb k 14) ≡ isUsed 0 (brackets k)
-account-used =
-    by-kind (λ k. (leb 1 k && leb k 8 || eqb k 10 || leb 12 k && leb k 14) ≡ isUsed 0 (brackets k))
-    (refl, refl, refl, refl, refl, refl, refl, refl, refl, refl, refl, refl, refl, refl, refl, refl)
-    (λ n h. simp (no-kind, and-false))
+account-used = every-kind (λ k. leb 1 k && leb k 8 || eqb k 10 || leb 12 k && leb k 14) (λ k. isUsed 0 (brackets k)) refl (λ n h. simp (no-kind, and-false))
 
 pub receipt-used : (k : ℕ) → (leb 3 k && leb k 8 || eqb k 10 || leb 12 k && leb k 14) ≡ isUsed 1 (brackets k)
-receipt-used =
-    by-kind (λ k. (leb 3 k && leb k 8 || eqb k 10 || leb 12 k && leb k 14) ≡ isUsed 1 (brackets k))
-    (refl, refl, refl, refl, refl, refl, refl, refl, refl, refl, refl, refl, refl, refl, refl, refl)
-    (λ n h. simp (no-kind, and-false))
+receipt-used = every-kind (λ k. leb 3 k && leb k 8 || eqb k 10 || leb 12 k && leb k 14) (λ k. isUsed 1 (brackets k)) refl (λ n h. simp (no-kind, and-false))
 
 pub contract-used : (k : ℕ) → (eqb k 4 || eqb k 9) ≡ isUsed 2 (brackets k)
-contract-used =
-    by-kind (λ k. (eqb k 4 || eqb k 9) ≡ isUsed 2 (brackets k))
-    (refl, refl, refl, refl, refl, refl, refl, refl, refl, refl, refl, refl, refl, refl, refl, refl)
-    (λ n h. simp (no-kind, and-false))
+contract-used = every-kind (λ k. eqb k 4 || eqb k 9) (λ k. isUsed 2 (brackets k)) refl (λ n h. simp (no-kind, and-false))
 
-pub days-used : (k : ℕ) → eqb k 4 ≡ isUsed 3 (brackets k)
-days-used =
-    by-kind (λ k. eqb k 4 ≡ isUsed 3 (brackets k))
-    (refl, refl, refl, refl, refl, refl, refl, refl, refl, refl, refl, refl, refl, refl, refl, refl)
-    (λ n h. simp (no-kind, and-false))
+pub days-used : (k : ℕ) → (eqb k 4) ≡ isUsed 3 (brackets k)
+days-used = every-kind (λ k. eqb k 4) (λ k. isUsed 3 (brackets k)) refl (λ n h. simp (no-kind, and-false))
 
 pub amount-used : (k : ℕ) → (eqb k 1 || eqb k 2 || eqb k 6 || eqb k 9 || eqb k 13) ≡ isUsed 4 (brackets k)
-amount-used =
-    by-kind (λ k. (eqb k 1 || eqb k 2 || eqb k 6 || eqb k 9 || eqb k 13) ≡ isUsed 4 (brackets k))
-    (refl, refl, refl, refl, refl, refl, refl, refl, refl, refl, refl, refl, refl, refl, refl, refl)
-    (λ n h. simp (no-kind, and-false))
+amount-used = every-kind (λ k. eqb k 1 || eqb k 2 || eqb k 6 || eqb k 9 || eqb k 13) (λ k. isUsed 4 (brackets k)) refl (λ n h. simp (no-kind, and-false))
 
-pub basis-used : (k : ℕ) → eqb k 4 ≡ isUsed 5 (brackets k)
-basis-used =
-    by-kind (λ k. eqb k 4 ≡ isUsed 5 (brackets k))
-    (refl, refl, refl, refl, refl, refl, refl, refl, refl, refl, refl, refl, refl, refl, refl, refl)
-    (λ n h. simp (no-kind, and-false))
+pub basis-used : (k : ℕ) → (eqb k 4) ≡ isUsed 5 (brackets k)
+basis-used = every-kind (λ k. eqb k 4) (λ k. isUsed 5 (brackets k)) refl (λ n h. simp (no-kind, and-false))
 
-pub weight-used : (k : ℕ) → eqb k 3 ≡ isUsed 6 (brackets k)
-weight-used =
-    by-kind (λ k. eqb k 3 ≡ isUsed 6 (brackets k))
-    (refl, refl, refl, refl, refl, refl, refl, refl, refl, refl, refl, refl, refl, refl, refl, refl)
-    (λ n h. simp (no-kind, and-false))
+pub weight-used : (k : ℕ) → (eqb k 3) ≡ isUsed 6 (brackets k)
+weight-used = every-kind (λ k. eqb k 3) (λ k. isUsed 6 (brackets k)) refl (λ n h. simp (no-kind, and-false))
 
 pub spare-unused : (k : ℕ) → isUsed 7 (brackets k) ≡ false
-spare-unused =
-    by-kind (λ k. isUsed 7 (brackets k) ≡ false)
-    (refl, refl, refl, refl, refl, refl, refl, refl, refl, refl, refl, refl, refl, refl, refl, refl)
-    (λ n h. simp no-kind)
+spare-unused = every-kind (λ k. isUsed 7 (brackets k)) (λ k. false) refl (λ n h. simp no-kind)
 
 -- every field is used or zero, from what is used
 pub unused : (fs : List Field) (c : Call) (a r t d m b w z : Bool) → a ≡ isUsed 0 fs → r ≡ isUsed 1 fs → t ≡ isUsed 2 fs → d ≡ isUsed 3 fs →
@@ -162,9 +173,9 @@ module _ (c : Call) where
   abbrev ranges : ℕ → Bool
   ranges k =
       (not (isUsed 0 (brackets k)) || isAccount (c .account))
-      && (not (isUsed 1 (brackets k)) || within 1 128 (c .receipt))
-      && (not (isUsed 2 (brackets k)) || within 1 8 (c .contract))
-      && (not (eqb k 4) || leb (c .days) 3)
+      && (not (isUsed 1 (brackets k)) || isReceipt (c .receipt))
+      && (not (isUsed 2 (brackets k)) || isContract (c .contract))
+      && (not (eqb k 4) || isDays (c .days))
       && (not (eqb k 1 || eqb k 2 || eqb k 13) || isAmount (c .amount))
       && (not (eqb k 6) || isPrice (c .amount))
       && (not (eqb k 9) || (eqb (c .amount) 0 || isPrice (c .amount)))
@@ -224,44 +235,12 @@ pub and-cond : (a x : Bool) → a && x ≡ cond a x false
 and-cond true x = refl
 and-cond false x = refl
 
--- ── Amounts ────────────────────────────────────────────────────────────────────────────────────
-
--- x passes what is left below m exactly where the sum passes m
-module _ (m t x : ℕ) (h : t ≤ m) where
-  over : (b : Bool) → ltb (m - t) x ≡ b → b ≡ ltb m (t + x)
-  over true e = let k : m - t < x = ltb-true (m - t) x e in sym (lt-ltb m (t + x) (omega arith))
-  over false e = let k : x ≤ m - t = ltb-false (m - t) x e in sym (le-ltb m (t + x) (omega arith))
-
-  pub over-limit : ltb (m - t) x ≡ ltb m (t + x)
-  over-limit = over (ltb (m - t) x) refl
-
--- the third of the tests of kind 6
-third : (a b c d : Bool) → a && (b && (c && d)) ≡ true → c ≡ true
-third true true true d h = refl
-third true true false d h = h
-third true false c d h = absurd (false≢true h)
-third false b c d h = absurd (false≢true h)
-
-module _ (c : Call) where
-  limit-price : (k : ℕ) → not (inRange (brackets k) (values c)) ≡ false → k ≡ 6 → c .amount ≤ 200000
-  limit-price k h e =
-      let in6 : inRange (brackets 6) (values c) ≡ true =
-      subst (λ (j : ℕ). inRange (brackets j) (values c) ≡ true) e (not-false _ h)
-      in
-      price-at-most (c .amount)
-      (third (isAccount (c .account)) (within 1 128 (c .receipt)) (isPrice (c .amount)) true in6)
-
-  -- a limit price in its range fits
-  pub limit-at-most : outOfRange c ≡ false → c .kind ≡ 6 → c .amount ≤ 200000
-  unfolding outOfRange
-  limit-at-most h e = limit-price (c .kind) h e
-
--- ── The lowest number ──────────────────────────────────────────────────────────────────────────
+-- ── The first number that applies ──────────────────────────────────────────────────────────────────────────
 
 -- from row i on, the table's number is x
 abbrev pub From : ℕ → List (ℕ × Bool) → ℕ → Type 0
 From i [] x = 0 ≡ x
-From zero (r ∷ rs) x = lowest (r ∷ rs) ≡ x
+From zero (r ∷ rs) x = firstThatApplies (r ∷ rs) ≡ x
 From (suc i) (r ∷ rs) x = From i rs x
 
 -- b is what the code found of the test t
@@ -271,22 +250,6 @@ skip n e h k = rw (← e, h) at k
 pub hit : {b t : Bool} {n : ℕ} (m : ℕ) {x : ℕ} → b ≡ t → b ≡ true → cond t n m ≡ x → n ≡ x
 hit m e h k = rw (← e, h) at k
 
-module _ (v : View) (c : Call) (r : Record) where
-  abbrev pub tests : List (ℕ × Bool)
-  tests =
-      (3, illFormed c)
-      ∷ (4, outOfRange c)
-      ∷ (5, wrongPhase v c)
-      ∷ (6, wrongState c r)
-      ∷ (7, wrongParty c r)
-      ∷ (8, notAbove c r)
-      ∷ (9, noAsk v c)
-      ∷ (10, notPayable v c r)
-      ∷ (11, noMoney v c r)
-      ∷ (12, aboveLimit v c)
-      ∷ (13, aboveInvoice c r)
-      ∷ []
-
-  pub number-from : From 0 tests (number v c r)
-  unfolding number
-  number-from = refl
+pub number-from : (v : View) (c : Call) (f : Record) → From 0 (numberRows v c f) (firstNumber v c f)
+unfolding firstNumber
+number-from v c f = refl

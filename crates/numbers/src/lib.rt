@@ -1,57 +1,89 @@
-// The number of a call: the lowest of 3 to 13 that applies, 0 where none does.
-pub mod outcome;
-
-ghost use mathlib.Core.Path.{_≡_};
+// The number of a call: the first of 3 to 13 that applies, 0 where none does.
 ghost use mathlib.Core.Bool.{true};
-ghost use Prim.Native.Nat.{_≤_, _^_};
-ghost use Rattle.units.specs.Ranges.{within};
+ghost use mathlib.Core.Path.{_≡_};
+ghost use Prim.Native.Nat.{_≤_, _<_, _^_};
+ghost use Rattle.units.specs.Ranges.{isAmount, mostPrice, moneyLimit};
 ghost use Rattle.zone.specs.Held.{heldBy};
 ghost use Rattle.zone.specs.Valid.{recordValid};
-ghost use Rattle.rules.specs.Numbers.{brackets, isUsed, unusedZero, inRange, values, illFormed, outOfRange, wrongPhase, wrongState, wrongParty, notAbove, noAsk, notPayable, noMoney, aboveLimit, aboveInvoice, number};
+ghost use Rattle.rules.specs.Numbers.{brackets, isUsed, unusedZero, inRange, values, illFormed, outOfRange, wrongPhase, wrongState, wrongParty, notAbove, lacksAsk, notPayable, lacksMoney, aboveLimit, aboveInvoice, firstNumber};
+ghost use Rattle.rules.specs.Ready.{Ready};
 use rules::Call;
+use rules::KIND_CONFIRM;
+use rules::KIND_DAY_CLOSE;
+use rules::KIND_FIRST_PAYMENT;
+use rules::KIND_INVOICE;
+use rules::KIND_LIMIT_BID;
+use rules::KIND_LIST;
+use rules::KIND_LODGE;
+use rules::KIND_MARKET_BID;
+use rules::KIND_MORNING_CLOSE;
+use rules::KIND_PAY_IN;
+use rules::KIND_QUOTE;
+use rules::KIND_REGISTER;
+use rules::KIND_TAKE_OUT;
+use rules::KIND_WITHDRAW_BID;
+use rules::KIND_WITHDRAW_LISTING;
+use rules::NUMBER_ACCEPTED;
+use rules::NUMBER_BAD_CALL;
+use rules::NUMBER_NO_ASK;
+use rules::NUMBER_NO_MONEY;
+use rules::NUMBER_NOT_ABOVE;
+use rules::NUMBER_NOTHING_TO_PAY;
+use rules::NUMBER_OUT_OF_RANGE;
+use rules::NUMBER_OVER_INVOICE;
+use rules::NUMBER_OVER_LIMIT;
+use rules::NUMBER_WRONG_PARTY;
+use rules::NUMBER_WRONG_PHASE;
+use rules::NUMBER_WRONG_STATE;
 use rules::View;
+use units::Fen;
+use units::LAST_DAY;
+use units::MONEY_LIMIT;
+use units::PER_RECEIPT;
 use units::YuanPerTonne;
 use zone::Record;
+use zone::STATE_BID_STANDS;
+use zone::STATE_FIRST_PAID;
+use zone::STATE_IDLE;
+use zone::STATE_LISTED;
+use zone::STATE_SETTLED;
+use zone::STATE_STRUCK;
 
-fn is_receipt(n: u8) -> bool
-    ensures { λ r. ⌜ r ≡ within 1 128 n ⌝ }
-{
-    (1 <= n) & (n <= 128)
-}
-
-fn is_contract(n: u8) -> bool
-    ensures { λ r. ⌜ r ≡ within 1 8 n ⌝ }
-{
-    (1 <= n) & (n <= 8)
-}
-
-// ── The fields in a kind's brackets ─────────────────────────────────────────────────────────────
+// ── The fields that a kind uses ─────────────────────────────────────────────────────────────────
 
 fn uses_account(kind: u8) -> bool
     ensures { λ r. ⌜ r ≡ isUsed 0 (brackets kind) ⌝ }
 {
-    (1 <= kind) & (kind <= 8) | (kind == 10) | (12 <= kind) & (kind <= 14)
+    (KIND_PAY_IN <= kind) & (kind <= KIND_WITHDRAW_BID)
+        | (kind == KIND_LODGE)
+        | (KIND_FIRST_PAYMENT <= kind) & (kind <= KIND_CONFIRM)
 }
 
 fn uses_receipt(kind: u8) -> bool
     ensures { λ r. ⌜ r ≡ isUsed 1 (brackets kind) ⌝ }
 {
-    (3 <= kind) & (kind <= 8) | (kind == 10) | (12 <= kind) & (kind <= 14)
+    (KIND_REGISTER <= kind) & (kind <= KIND_WITHDRAW_BID)
+        | (kind == KIND_LODGE)
+        | (KIND_FIRST_PAYMENT <= kind) & (kind <= KIND_CONFIRM)
 }
 
 fn uses_contract(kind: u8) -> bool
     ensures { λ r. ⌜ r ≡ isUsed 2 (brackets kind) ⌝ }
 {
-    (kind == 4) | (kind == 9)
+    (kind == KIND_LIST) | (kind == KIND_QUOTE)
 }
 
 fn uses_amount(kind: u8) -> bool
     ensures { λ r. ⌜ r ≡ isUsed 4 (brackets kind) ⌝ }
 {
-    (kind == 1) | (kind == 2) | (kind == 6) | (kind == 9) | (kind == 13)
+    (kind == KIND_PAY_IN)
+        | (kind == KIND_TAKE_OUT)
+        | (kind == KIND_LIMIT_BID)
+        | (kind == KIND_QUOTE)
+        | (kind == KIND_INVOICE)
 }
 
-// Each field is used or zero; kind 4 alone uses D and basis, and kind 3 the weight.
+// Each field is used or zero. A listing alone uses D and basis, a registration alone the weight.
 fn unused_zero(c: Call) -> bool
     ensures { λ r. ⌜ r ≡ unusedZero (brackets (c .kind)) 0 (values c) ⌝ }
 {
@@ -59,10 +91,10 @@ fn unused_zero(c: Call) -> bool
     (uses_account(kind) | (c.account == 0))
         & (uses_receipt(kind) | (c.receipt == 0))
         & (uses_contract(kind) | (c.contract == 0))
-        & ((kind == 4) | (c.days == 0))
+        & ((kind == KIND_LIST) | (c.days == 0))
         & (uses_amount(kind) | (c.amount == 0))
-        & ((kind == 4) | zone::is_zero(c.basis))
-        & ((kind == 3) | (c.weight == 0))
+        & ((kind == KIND_LIST) | units::is_zero(c.basis))
+        & ((kind == KIND_REGISTER) | (c.weight == 0))
         & (c.spare == 0)
 }
 
@@ -72,16 +104,17 @@ fn in_range(c: Call) -> bool
 {
     let kind = c.kind;
     let amount = c.amount;
+    let money = (kind == KIND_PAY_IN) | (kind == KIND_TAKE_OUT) | (kind == KIND_INVOICE);
     let price = units::is_price(amount);
-    (!uses_account(kind) | zone::is_account(c.account))
-        & (!uses_receipt(kind) | is_receipt(c.receipt))
-        & (!uses_contract(kind) | is_contract(c.contract))
-        & ((kind != 4) | (c.days <= 3))
-        & (!((kind == 1) | (kind == 2) | (kind == 13)) | units::is_amount(amount))
-        & ((kind != 6) | price)
-        & ((kind != 9) | ((amount == 0) | price))
-        & ((kind != 4) | units::is_basis(c.basis))
-        & ((kind != 3) | units::is_weight(c.weight))
+    (!uses_account(kind) | units::is_account(c.account))
+        & (!uses_receipt(kind) | units::is_receipt(c.receipt))
+        & (!uses_contract(kind) | units::is_contract(c.contract))
+        & ((kind != KIND_LIST) | units::is_days(c.days))
+        & (!money | units::is_amount(amount))
+        & ((kind != KIND_LIMIT_BID) | price)
+        & ((kind != KIND_QUOTE) | ((amount == 0) | price))
+        & ((kind != KIND_LIST) | units::is_basis(c.basis))
+        & ((kind != KIND_REGISTER) | units::is_weight(c.weight))
 }
 
 // ── One test for each number ────────────────────────────────────────────────────────────────────
@@ -89,7 +122,7 @@ fn in_range(c: Call) -> bool
 fn ill_formed(c: Call) -> bool
     ensures { λ r. ⌜ r ≡ illFormed c ⌝ }
 {
-    !((1 <= c.kind) & (c.kind <= 15) & unused_zero(c))
+    !((KIND_PAY_IN <= c.kind) & (c.kind <= KIND_DAY_CLOSE) & unused_zero(c))
 }
 
 fn out_of_range(c: Call) -> bool
@@ -103,75 +136,75 @@ fn wrong_phase(v: View, c: Call) -> bool
 {
     let kind = c.kind;
     match kind {
-        11 => v.afternoon,
-        15 => !v.afternoon | (v.day == 30000),
+        KIND_MORNING_CLOSE => v.afternoon,
+        KIND_DAY_CLOSE => !v.afternoon | (v.day == LAST_DAY),
         _ => false,
     }
 }
 
-fn wrong_state(c: Call, r: Record) -> bool
-    ensures { λ x. ⌜ x ≡ wrongState c r ⌝ }
+// Of each kind that names a state, that the receipt is in it.
+fn wrong_state(c: Call, f: Record) -> bool
+    ensures { λ x. ⌜ x ≡ wrongState c f ⌝ }
 {
     let kind = c.kind;
-    let state = r.state;
-    let registered = !(r.owner == 0);
-    let pending = !(r.pending.0 == 0);
-    // of each kind that names a state, that the receipt is in it
-    let named = ((kind != 3) | !registered)
-        & ((kind != 4) | (state == 0) & registered)
-        & (!((kind == 5) | (kind == 6) | (kind == 7)) | ((state == 1) | (state == 2)))
-        & ((kind != 8) | (state == 2))
-        & ((kind != 10) | (state == 3))
-        & ((kind != 12) | (state == 5))
-        & ((kind != 13) | (state == 6) & !pending)
-        & ((kind != 14) | (state == 6) & pending);
+    let state = f.state;
+    let registered = !(f.owner == 0);
+    let pending = !(f.pending.0 == 0);
+    let offered = (state == STATE_LISTED) | (state == STATE_BID_STANDS);
+    let on_offer = (kind == KIND_WITHDRAW_LISTING)
+        | (kind == KIND_LIMIT_BID)
+        | (kind == KIND_MARKET_BID);
+    let named = ((kind != KIND_REGISTER) | !registered)
+        & ((kind != KIND_LIST) | (state == STATE_IDLE) & registered)
+        & (!on_offer | offered)
+        & ((kind != KIND_WITHDRAW_BID) | (state == STATE_BID_STANDS))
+        & ((kind != KIND_LODGE) | (state == STATE_STRUCK))
+        & ((kind != KIND_FIRST_PAYMENT) | (state == STATE_SETTLED))
+        & ((kind != KIND_INVOICE) | (state == STATE_FIRST_PAID) & !pending)
+        & ((kind != KIND_CONFIRM) | (state == STATE_FIRST_PAID) & pending);
     !named
 }
 
-fn wrong_party(c: Call, r: Record) -> bool
-    ensures { λ x. ⌜ x ≡ wrongParty c r ⌝ }
+// Of each kind that names a party, that the caller is the one.
+fn wrong_party(c: Call, f: Record) -> bool
+    ensures { λ x. ⌜ x ≡ wrongParty c f ⌝ }
 {
     let kind = c.kind;
-    let by_owner = c.account == r.owner;
-    let by_seller = c.account == r.seller;
-    let by_buyer = c.account == r.buyer;
-    // of each kind that names a party, that the caller is the one
-    let named = ((kind != 4) | by_owner)
-        & (!((kind == 5) | (kind == 10) | (kind == 12) | (kind == 13)) | by_seller)
-        & (!((kind == 8) | (kind == 14)) | by_buyer)
-        & (!((kind == 6) | (kind == 7)) | !by_seller);
+    let by_owner = c.account == f.owner;
+    let by_seller = c.account == f.seller;
+    let by_buyer = c.account == f.buyer;
+    let of_seller = (kind == KIND_WITHDRAW_LISTING)
+        | (kind == KIND_LODGE)
+        | (kind == KIND_FIRST_PAYMENT)
+        | (kind == KIND_INVOICE);
+    let named = ((kind != KIND_LIST) | by_owner)
+        & (!of_seller | by_seller)
+        & (!((kind == KIND_WITHDRAW_BID) | (kind == KIND_CONFIRM)) | by_buyer)
+        & (!((kind == KIND_LIMIT_BID) | (kind == KIND_MARKET_BID)) | !by_seller);
     !named
 }
 
-fn not_above(c: Call, r: Record) -> bool
-    ensures { λ x. ⌜ x ≡ notAbove c r ⌝ }
+fn not_above(c: Call, f: Record) -> bool
+    ensures { λ x. ⌜ x ≡ notAbove c f ⌝ }
 {
-    (c.kind == 6) & !((r.price.0 as u64) < c.amount)
+    (c.kind == KIND_LIMIT_BID) & !((f.price.0 as u64) < c.amount)
 }
 
-fn no_ask(v: View, c: Call) -> bool
-    ensures { λ x. ⌜ x ≡ noAsk v c ⌝ }
+fn lacks_ask(v: View, c: Call) -> bool
+    ensures { λ x. ⌜ x ≡ lacksAsk v c ⌝ }
 {
-    (c.kind == 7) & (v.ask.0 == 0)
+    (c.kind == KIND_MARKET_BID) & (v.ask.0 == 0)
 }
 
-// A limit price as the number that it is; only kind 6 asks, and its amount is a price.
-fn limit_price(c: Call) -> YuanPerTonne
-    requires { ⌜ c .amount ≤ 200000 ⌝ }
-    ensures { λ r. ⌜ r ≡ record { 0 = c .amount } ⌝ }
-{
-    YuanPerTonne(c.amount as u32)
-}
-
-fn not_payable(v: View, c: Call, r: Record) -> bool
-    requires { ⌜ (c .kind ≡ 6 → c .amount ≤ 200000) ⌝ }
-    ensures { λ x. ⌜ x ≡ notPayable v c r ⌝ }
+fn not_payable(v: View, c: Call, f: Record) -> bool
+    requires { ⌜ (c .kind ≡ 6 → c .amount ≤ mostPrice) ⌝ }
+    ensures { λ x. ⌜ x ≡ notPayable v c f ⌝ }
 {
     let kind = c.kind;
-    let basis = r.basis;
+    let basis = f.basis;
     match kind {
-        6 => !units::is_payable(limit_price(c), basis),
-        7 => {
+        KIND_LIMIT_BID => !units::is_payable(YuanPerTonne(c.amount as u32), basis),
+        KIND_MARKET_BID => {
             let ask = v.ask;
             !units::is_payable(ask, basis)
         }
@@ -180,84 +213,84 @@ fn not_payable(v: View, c: Call, r: Record) -> bool
 }
 
 // What the lot holds from an account.
-fn held_by(a: u8, r: Record) -> u64
-    requires { ⌜ recordValid r ≡ true ⌝ }
-    ensures { λ x. ⌜ (x ≡ heldBy a r) × (x ≤ 1500000000) ⌝ }
+fn held_by(a: u8, f: Record) -> Fen
+    requires { ⌜ recordValid f ≡ true ⌝ }
+    ensures { λ x. ⌜ (x .0 ≡ heldBy a f) × (x .0 < 2 ^ 32) ⌝ }
 {
-    let h = zone::hold_of(r);
-    if a == h.by { h.fen.0 } else { 0 }
+    let h = validity::hold_of(f);
+    let held = h.fen;
+    if a == h.by { held } else { Fen(0) }
 }
 
-fn no_money(v: View, c: Call, r: Record) -> bool
-    requires { ⌜ (recordValid r ≡ true) × (v .caller .0 ≤ 10 ^ 15) ⌝ }
-    ensures { λ x. ⌜ x ≡ noMoney v c r ⌝ }
+fn lacks_money(v: View, c: Call, f: Record) -> bool
+    requires { ⌜ Ready v f ⌝ }
+    ensures { λ x. ⌜ x ≡ lacksMoney v c f ⌝ }
 {
     let kind = c.kind;
-    let free = v.caller.0;
-    if kind == 2 {
+    let free = v.free.caller.0;
+    if kind == KIND_TAKE_OUT {
         return free < c.amount;
     }
-    ((kind == 6) | (kind == 7)) & (free + held_by(c.account, r) < 5000000)
+    ((kind == KIND_LIMIT_BID) | (kind == KIND_MARKET_BID))
+        & (free + held_by(c.account, f).0 < PER_RECEIPT)
 }
 
 fn above_limit(v: View, c: Call) -> bool
-    requires { ⌜ v .total .0 ≤ 10 ^ 15 ⌝ }
+    requires { ⌜ (v .total .0 ≤ moneyLimit) × (c .kind ≡ 1 → isAmount (c .amount) ≡ true) ⌝ }
     ensures { λ x. ⌜ x ≡ aboveLimit v c ⌝ }
 {
-    (c.kind == 1) & (1000000000000000 - v.total.0 < c.amount)
-}
-
-fn above_invoice(c: Call, r: Record) -> bool
-    requires { ⌜ recordValid r ≡ true ⌝ }
-    ensures { λ x. ⌜ x ≡ aboveInvoice c r ⌝ }
-{
-    if c.kind != 13 {
+    if c.kind != KIND_PAY_IN {
         return false;
     }
-    let full = zone::full_of(r).0;
-    let confirmed = r.confirmed.0;
-    if full < confirmed {
-        return 0 < c.amount;
-    }
-    full - confirmed < c.amount
+    MONEY_LIMIT < v.total.0 + c.amount
 }
 
-pub fn number_of(v: View, c: Call, r: Record) -> u8
-    requires { ⌜ (recordValid r ≡ true) × (v .caller .0 ≤ 10 ^ 15) × (v .total .0 ≤ 10 ^ 15) ⌝ }
-    ensures { λ x. ⌜ x ≡ number v c r ⌝ }
+fn above_invoice(c: Call, f: Record) -> bool
+    requires { ⌜ (recordValid f ≡ true) × (c .kind ≡ 13 → isAmount (c .amount) ≡ true) ⌝ }
+    ensures { λ x. ⌜ x ≡ aboveInvoice c f ⌝ }
+{
+    if c.kind != KIND_INVOICE {
+        return false;
+    }
+    validity::full_of(f).0 < f.confirmed.0 + c.amount
+}
+
+pub fn first_number(v: View, c: Call, f: Record) -> u8
+    requires { ⌜ Ready v f ⌝ }
+    ensures { λ x. ⌜ x ≡ firstNumber v c f ⌝ }
 {
     if ill_formed(c) {
-        return 3;
+        return NUMBER_BAD_CALL;
     }
     if out_of_range(c) {
-        return 4;
+        return NUMBER_OUT_OF_RANGE;
     }
     if wrong_phase(v, c) {
-        return 5;
+        return NUMBER_WRONG_PHASE;
     }
-    if wrong_state(c, r) {
-        return 6;
+    if wrong_state(c, f) {
+        return NUMBER_WRONG_STATE;
     }
-    if wrong_party(c, r) {
-        return 7;
+    if wrong_party(c, f) {
+        return NUMBER_WRONG_PARTY;
     }
-    if not_above(c, r) {
-        return 8;
+    if not_above(c, f) {
+        return NUMBER_NOT_ABOVE;
     }
-    if no_ask(v, c) {
-        return 9;
+    if lacks_ask(v, c) {
+        return NUMBER_NO_ASK;
     }
-    if not_payable(v, c, r) {
-        return 10;
+    if not_payable(v, c, f) {
+        return NUMBER_NOTHING_TO_PAY;
     }
-    if no_money(v, c, r) {
-        return 11;
+    if lacks_money(v, c, f) {
+        return NUMBER_NO_MONEY;
     }
     if above_limit(v, c) {
-        return 12;
+        return NUMBER_OVER_LIMIT;
     }
-    if above_invoice(c, r) {
-        return 13;
+    if above_invoice(c, f) {
+        return NUMBER_OVER_INVOICE;
     }
-    0
+    NUMBER_ACCEPTED
 }

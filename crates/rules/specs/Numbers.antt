@@ -180,11 +180,10 @@ aboveInvoice c f = eqb (c .kind) 13 && ltb (full f .0) (f .confirmed .0 + c .amo
 
 -- ── The table ──────────────────────────────────────────────────────────────────────────────────
 
--- the first row that applies, 0 where none does (01 Answers 26)
-unfoldable pub firstNumber : View → Call → Record → ℕ
-firstNumber v c f =
-    firstThatApplies
-    ((3, illFormed c)
+-- the numbers in their order, each with its test
+abbrev pub numberRows : View → Call → Record → List (ℕ × Bool)
+numberRows v c f =
+    (3, illFormed c)
     ∷ (4, outOfRange c)
     ∷ (5, wrongPhase v c)
     ∷ (6, wrongState c f)
@@ -195,4 +194,8 @@ firstNumber v c f =
     ∷ (11, lacksMoney v c f)
     ∷ (12, aboveLimit v c)
     ∷ (13, aboveInvoice c f)
-    ∷ [])
+    ∷ []
+
+-- the first row that applies, 0 where none does (01 Answers 26)
+unfoldable pub firstNumber : View → Call → Record → ℕ
+firstNumber v c f = firstThatApplies (numberRows v c f)

@@ -7,6 +7,10 @@ use borrow.Author.Needs.{needs}
 use Rattle.numbers.proofs.in_range.Statement.{statement}
 use Rattle.numbers.proofs.in_range.Tie as tie
 
+-- the basis as the machine holds it
+kept : (c : tie.Start) → toZ w32 (ofZ w32 (c .args .c .basis)) ≡ c .args .c .basis
+kept c = toZ-ofZ (search needs)
+
 is-price-requires : tie.Need-is-price-requires
 is-price-requires c κs = search needs
 
@@ -28,6 +32,9 @@ uses-contract-requires c κs = search needs
 is-contract-requires : tie.Need-is-contract-requires
 is-contract-requires c κs = search needs
 
+is-days-requires : tie.Need-is-days-requires
+is-days-requires c κs = search needs
+
 is-amount-requires : tie.Need-is-amount-requires
 is-amount-requires c κs = search needs
 
@@ -37,13 +44,8 @@ is-basis-requires c κs = search needs
 is-weight-requires : tie.Need-is-weight-requires
 is-weight-requires c κs = search needs
 
--- the basis as the machine holds it
-kept : (c : tie.Start) → toZ w32 (ofZ w32 (c .args .c .basis)) ≡ c .args .c .basis
-kept c = toZ-ofZ (search needs)
-
 returns : tie.Need-returns
 returns c =
-    let start = c .before .before .before .before .before .before .before .before .before .before .before .before in
     rw (
       c .before .before .before .before .before .before .before .before .before .before .uses-account .ensures,
       c .before .before .before .before .before .before .before .before .before .is-account .ensures,
@@ -51,13 +53,14 @@ returns c =
       c .before .before .before .before .before .before .before .is-receipt .ensures,
       c .before .before .before .before .before .before .uses-contract .ensures,
       c .before .before .before .before .before .is-contract .ensures,
+      c .before .before .before .before .is-days .ensures,
       c .before .before .before .is-amount .ensures,
       c .before .before .before .before .before .before .before .before .before .before .before .is-price .ensures,
       c .before .is-basis .ensures,
       c .is-weight .ensures,
-      kept start,
+      kept (c .before .before .before .before .before .before .before .before .before .before .before .before),
     )
-    (all-in-range (start .args .c) (start .args .c .kind))
+    (all-in-range (c .before .before .before .before .before .before .before .before .before .before .before .before .args .c) (c .before .before .before .before .before .before .before .before .before .before .before .before .args .c .kind))
 
 pub in-range-spec : {M : Type 1} → statement M
 in-range-spec =
@@ -70,6 +73,7 @@ in-range-spec =
     is-receipt-requires
     uses-contract-requires
     is-contract-requires
+    is-days-requires
     is-amount-requires
     is-basis-requires
     is-weight-requires

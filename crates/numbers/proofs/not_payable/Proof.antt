@@ -5,8 +5,8 @@ use borrow.Author.Needs.{needs}
 use Rattle.numbers.proofs.not_payable.Statement.{statement}
 use Rattle.numbers.proofs.not_payable.Tie as tie
 
-limit-price-requires : tie.Need-limit-price-requires
-limit-price-requires c κs = c .before .before .pre (c .match .keys1)
+cast-t9 : tie.Need-cast-t9
+cast-t9 c = omega (arith, c .before .before .before .pre (c .before .match .keys1))
 
 is-payable-requires : tie.Need-is-payable-requires
 is-payable-requires c κs = search needs
@@ -16,7 +16,7 @@ is-payable-requires-2 c κs = search needs
 
 returns : tie.Need-returns
 unfolding notPayable
-returns c = rw (eq-eqb _ _ (c .before .before .match .keys1), c .is-payable .ensures, c .before .limit-price .ensures)
+returns c = rw (eq-eqb _ _ (c .before .before .match .keys1), c .is-payable .ensures)
 
 returns-2 : tie.Need-returns-2
 unfolding notPayable
@@ -29,10 +29,4 @@ returns-3 c = rw (ne-eqb _ _ (c .match .rest .0 .1), ne-eqb _ _ (c .match .rest 
 pub not-payable-spec : {M : Type 1} → statement M
 not-payable-spec =
     tie.close
-    (tie.spec
-    limit-price-requires
-    is-payable-requires
-    is-payable-requires-2
-    returns
-    returns-2
-    returns-3)
+    (tie.spec cast-t9 is-payable-requires is-payable-requires-2 returns returns-2 returns-3)

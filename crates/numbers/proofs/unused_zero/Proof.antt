@@ -2,7 +2,7 @@ use mathlib.Core.Path.{_≡_, ap, _∙_}
 use mir.Syntax.{w32}
 use mir.Val.{toZ, ofZ}
 use mir.Facts.{toZ-ofZ}
-use Rattle.zone.specs.Valid.{isZero}
+use Rattle.units.specs.Ranges.{isZero}
 use Rattle.rules.specs.Numbers.{brackets}
 use Rattle.numbers.proofs.NumbersLaws.{days-used, basis-used, weight-used, spare-unused, unused}
 use borrow.Author.Needs.{needs}

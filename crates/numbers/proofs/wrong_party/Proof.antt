@@ -9,7 +9,7 @@ returns : tie.Need-returns
 unfolding wrongParty
 returns c =
     let a = c .before .before .before .before .before .before .args in
-    ap not (party-named (a .r) (a .c .account) (a .c .kind))
+    ap not (party-named (a .f) (a .c .account) (a .c .kind))
 
 pub wrong-party-spec : {M : Type 1} → statement M
 wrong-party-spec = tie.close (tie.spec returns)

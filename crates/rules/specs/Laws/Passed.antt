@@ -79,11 +79,15 @@ ranges-of (f ∷ fs) c h =
     let t = both (f .range (valueAt (f .place) (values c))) (inRange fs (values c)) h in
     (t .0, ranges-of fs c (t .1))
 
+-- A call that passes the test of ranges, of a kind written out: `.0` is the range of the first field in its brackets, `.1 .0` of the second ..
+pub ranges-at : (c : Call) (k : ℕ) → c .kind ≡ k → outOfRange c ≡ false → InRanges (brackets k) c
+unfolding outOfRange
+ranges-at c k e h = subst (λ (j : ℕ). InRanges (brackets j) c) e (ranges-of (brackets (c .kind)) c (not-false _ h))
+
 module _ {v : View} {c : Call} {f : Record} (P : Passed v c f) where
-  -- The fields in the brackets of the kind are in range. At a kind written out: `.0` is the first field's, `.1 .0` the second's ..
+  -- the fields in the brackets of the kind are in range
   pub ranges : InRanges (brackets (c .kind)) c
-  unfolding outOfRange
-  ranges = ranges-of (brackets (c .kind)) c (not-false _ (P .range))
+  ranges = ranges-at c (c .kind) refl (P .range)
 
   -- the kind is one of 15
   pub kind-in : within 1 15 (c .kind) ≡ true

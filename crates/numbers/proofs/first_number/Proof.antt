@@ -1,17 +1,20 @@
-use mathlib.Core.Path.{sym, _∙_}
+use mathlib.Core.Bool.{false}
+use mathlib.Core.Path.{_≡_, sym, _∙_}
 use Prim.Native.Nat.{ℕ}
-use Rattle.rules.specs.Numbers.{number}
-use Rattle.numbers.proofs.NumbersLaws.{From, skip, hit, tests, number-from, limit-at-most}
+use Rattle.zone.specs.Laws.Tests.{price-at-most}
+use Rattle.rules.specs.Laws.Passed.{ranges-at}
+use Rattle.rules.specs.Numbers.{outOfRange, firstNumber, numberRows}
+use Rattle.numbers.proofs.NumbersLaws.{From, skip, hit, number-from}
 use borrow.Author.Needs.{needs}
-use Rattle.numbers.proofs.number_of.Statement.{statement}
-use Rattle.numbers.proofs.number_of.Tie as tie
+use Rattle.numbers.proofs.first_number.Statement.{statement}
+use Rattle.numbers.proofs.first_number.Tie as tie
 
 -- row i of the table is reached
 abbrev Reached : ℕ → tie.Start → Type 0
-Reached i c = From i (tests (c .args .v) (c .args .c) (c .args .r)) (number (c .args .v) (c .args .c) (c .args .r))
+Reached i c = From i (numberRows (c .args .v) (c .args .c) (c .args .f)) (firstNumber (c .args .v) (c .args .c) (c .args .f))
 
 row-0 : (c : tie.Start) → Reached 0 c
-row-0 c = number-from (c .args .v) (c .args .c) (c .args .r)
+row-0 c = number-from (c .args .v) (c .args .c) (c .args .f)
 
 row-1 : (c : tie.Else1) → Reached 1 (c .before .before)
 row-1 c = skip _ (c .before .ill-formed .ensures) (c .if1 .left) (row-0 (c .before .before))
@@ -32,19 +35,23 @@ row-6 : (c : tie.Else6) → Reached 6 (c .before .before .before .before .before
 row-6 c = skip _ (c .before .not-above .ensures) (c .if6 .left) (row-5 (c .before .before))
 
 row-7 : (c : tie.Else7) → Reached 7 (c .before .before .before .before .before .before .before .before .before .before .before .before .before .before)
-row-7 c = skip _ (c .before .no-ask .ensures) (c .if7 .left) (row-6 (c .before .before))
+row-7 c = skip _ (c .before .lacks-ask .ensures) (c .if7 .left) (row-6 (c .before .before))
 
 row-8 : (c : tie.Else8) → Reached 8 (c .before .before .before .before .before .before .before .before .before .before .before .before .before .before .before .before)
 row-8 c = skip _ (c .before .not-payable .ensures) (c .if8 .left) (row-7 (c .before .before))
 
 row-9 : (c : tie.Else9) → Reached 9 (c .before .before .before .before .before .before .before .before .before .before .before .before .before .before .before .before .before .before)
-row-9 c = skip _ (c .before .no-money .ensures) (c .if9 .left) (row-8 (c .before .before))
+row-9 c = skip _ (c .before .lacks-money .ensures) (c .if9 .left) (row-8 (c .before .before))
 
 row-10 : (c : tie.Else10) → Reached 10 (c .before .before .before .before .before .before .before .before .before .before .before .before .before .before .before .before .before .before .before .before)
 row-10 c = skip _ (c .before .above-limit .ensures) (c .if10 .left) (row-9 (c .before .before))
 
 row-11 : (c : tie.Else11) → Reached 11 (c .before .before .before .before .before .before .before .before .before .before .before .before .before .before .before .before .before .before .before .before .before .before)
 row-11 c = skip _ (c .before .above-invoice .ensures) (c .if11 .left) (row-10 (c .before .before))
+
+-- the call passes the test of ranges
+in-ranges : (c : tie.Else2) → outOfRange (c .before .before .before .before .args .c) ≡ false
+in-ranges c = sym (c .before .out-of-range .ensures) ∙ c .if2 .left
 
 ill-formed-requires : tie.Need-ill-formed-requires
 ill-formed-requires c κs = search needs
@@ -82,36 +89,32 @@ not-above-requires c κs = search needs
 returns-6 : tie.Need-returns-6
 returns-6 c = hit _ (c .before .not-above .ensures) (c .if6 .taken) (row-5 (c .before .before))
 
-no-ask-requires : tie.Need-no-ask-requires
-no-ask-requires c κs = search needs
+lacks-ask-requires : tie.Need-lacks-ask-requires
+lacks-ask-requires c κs = search needs
 
 returns-7 : tie.Need-returns-7
-returns-7 c = hit _ (c .before .no-ask .ensures) (c .if7 .taken) (row-6 (c .before .before))
+returns-7 c = hit _ (c .before .lacks-ask .ensures) (c .if7 .taken) (row-6 (c .before .before))
 
 not-payable-requires : tie.Need-not-payable-requires
-not-payable-requires c κs =
-    let ranged = c .before .before .before .before .before .before .before .before .before .before in
-    limit-at-most
-    (ranged .before .before .before .before .args .c)
-    (sym (ranged .before .out-of-range .ensures) ∙ ranged .if2 .left)
+not-payable-requires c κs = λ e. price-at-most _ (ranges-at (c .before .before .before .before .before .before .before .before .before .before .before .before .before .before .args .c) 6 e (in-ranges (c .before .before .before .before .before .before .before .before .before .before)) .1 .1 .0)
 
 returns-8 : tie.Need-returns-8
 returns-8 c = hit _ (c .before .not-payable .ensures) (c .if8 .taken) (row-7 (c .before .before))
 
-no-money-requires : tie.Need-no-money-requires
-no-money-requires c κs = search needs
+lacks-money-requires : tie.Need-lacks-money-requires
+lacks-money-requires c κs = search needs
 
 returns-9 : tie.Need-returns-9
-returns-9 c = hit _ (c .before .no-money .ensures) (c .if9 .taken) (row-8 (c .before .before))
+returns-9 c = hit _ (c .before .lacks-money .ensures) (c .if9 .taken) (row-8 (c .before .before))
 
 above-limit-requires : tie.Need-above-limit-requires
-above-limit-requires c κs = search needs
+above-limit-requires c κs = (c .before .before .before .before .before .before .before .before .before .before .before .before .before .before .before .before .before .before .pre .total, λ e. ranges-at (c .before .before .before .before .before .before .before .before .before .before .before .before .before .before .before .before .before .before .args .c) 1 e (in-ranges (c .before .before .before .before .before .before .before .before .before .before .before .before .before .before)) .1 .0)
 
 returns-10 : tie.Need-returns-10
 returns-10 c = hit _ (c .before .above-limit .ensures) (c .if10 .taken) (row-9 (c .before .before))
 
 above-invoice-requires : tie.Need-above-invoice-requires
-above-invoice-requires c κs = search needs
+above-invoice-requires c κs = (c .before .before .before .before .before .before .before .before .before .before .before .before .before .before .before .before .before .before .before .before .pre .valid, λ e. ranges-at (c .before .before .before .before .before .before .before .before .before .before .before .before .before .before .before .before .before .before .before .before .args .c) 13 e (in-ranges (c .before .before .before .before .before .before .before .before .before .before .before .before .before .before .before .before)) .1 .1 .0)
 
 returns-11 : tie.Need-returns-11
 returns-11 c = hit _ (c .before .above-invoice .ensures) (c .if11 .taken) (row-10 (c .before .before))
@@ -119,8 +122,8 @@ returns-11 c = hit _ (c .before .above-invoice .ensures) (c .if11 .taken) (row-1
 returns-12 : tie.Need-returns-12
 returns-12 c = row-11 c
 
-pub number-of-spec : {M : Type 1} → statement M
-number-of-spec =
+pub first-number-spec : {M : Type 1} → statement M
+first-number-spec =
     tie.close
     (tie.spec
     ill-formed-requires
@@ -135,11 +138,11 @@ number-of-spec =
     returns-5
     not-above-requires
     returns-6
-    no-ask-requires
+    lacks-ask-requires
     returns-7
     not-payable-requires
     returns-8
-    no-money-requires
+    lacks-money-requires
     returns-9
     above-limit-requires
     returns-10

@@ -1,19 +1,20 @@
 use mathlib.Core.Bool.{Bool, false, cond, _||_}
 use mathlib.Core.List.{[], _∷_}
 use mathlib.Core.Path.{sym, ap, _∙_}
+use Prim.Native.Nat.{_+_}
 use borrow.Author.Tests.{eq-eqb, ne-eqb}
 use lib.Dec.{eqb, ltb}
-use Prim.Native.Nat.{_+_}
+use Rattle.units.specs.Payments.{perReceipt}
 use Rattle.zone.specs.Held.{heldBy}
 use Rattle.rules.specs.Laws.Tables.{among-joined}
-use Rattle.rules.specs.Numbers.{noMoney}
+use Rattle.rules.specs.Numbers.{lacksMoney}
 use Rattle.numbers.proofs.NumbersLaws.{and-cond}
 use borrow.Author.Needs.{needs}
-use Rattle.numbers.proofs.no_money.Statement.{statement}
-use Rattle.numbers.proofs.no_money.Tie as tie
+use Rattle.numbers.proofs.lacks_money.Statement.{statement}
+use Rattle.numbers.proofs.lacks_money.Tie as tie
 
 returns : tie.Need-returns
-unfolding noMoney
+unfolding lacksMoney
 returns c = rw (eq-eqb _ _ (c .before .if1 .taken))
 
 held-by-requires : tie.Need-held-by-requires
@@ -23,13 +24,13 @@ add-result : tie.Need-add-result
 add-result c = search needs
 
 returns-2 : tie.Need-returns-2
-unfolding noMoney
+unfolding lacksMoney
 returns-2 c =
-    let a = c .before .before .args in
+    let a = c .before .before .before .args in
     let k = a .c .kind in
-    let short = ltb (a .v .caller .0 + heldBy (a .c .account) (a .r)) 5000000 in
-    rw (ne-eqb k 2 (c .before .if1 .left), c .held-by .ensures .0)
+    let short = ltb (a .v .free .caller .0 + heldBy (a .c .account) (a .f)) perReceipt in
+    rw (ne-eqb k 2 (c .before .before .if1 .left), c .before .held-by .ensures .0)
     (and-cond (eqb k 6 || eqb k 7) short ∙ ap (λ (t : Bool). cond t short false) (sym (among-joined k 6 (7 ∷ []))))
 
-pub no-money-spec : {M : Type 1} → statement M
-no-money-spec = tie.close (tie.spec returns held-by-requires add-result returns-2)
+pub lacks-money-spec : {M : Type 1} → statement M
+lacks-money-spec = tie.close (tie.spec returns held-by-requires add-result returns-2)
