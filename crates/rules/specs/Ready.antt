@@ -10,10 +10,12 @@ use Rattle.units.specs.Ranges.{mostPrice, moneyLimit, lastDay}
 use Rattle.zone.specs.declared.Account.{Account}
 use Rattle.zone.specs.declared.Hold.{Hold}
 use Rattle.zone.specs.declared.Record.{Record}
-use Rattle.zone.specs.Held.{share}
+use Rattle.zone.specs.Held.{holdOf, share}
 use Rattle.zone.specs.Valid.{recordValid}
 use Rattle.rules.specs.declared.Call.{Call}
+use Rattle.rules.specs.declared.Entry.{Entry}
 use Rattle.rules.specs.declared.View.{View}
+use Rattle.rules.specs.Events.{moneyOf}
 use Rattle.rules.specs.View.{freeAt, frozenAt}
 
 -- the lot's record is valid, and the view is of a valid zone
@@ -42,3 +44,7 @@ pub record Funds (l : List Account) (old : Hold) (s t : ℕ) (n : Fen) (new : Ho
   pub pass-fits : n .0 ≤ freeAt l s .0 + share s (old .by) (old .fen .0)
   pub hold-fits : 0 < new .by →
       new .fen .0 + share (new .by) s (n .0) ≤ freeAt l (new .by) .0 + share (new .by) (old .by) (old .fen .0) + share (new .by) t (n .0)
+
+-- the money of the event with entry e, by which a lot of record f has record f′
+abbrev pub Funded : List Account → Record → Entry → Record → Type 0
+Funded l f e f′ = Funds l (holdOf f) (e .from) (e .to) (moneyOf e) (holdOf f′)

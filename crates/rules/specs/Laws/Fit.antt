@@ -20,11 +20,12 @@ use Rattle.zone.specs.Record.{recordOf}
 use Rattle.zone.specs.Valid.{recordValid}
 use Rattle.rules.specs.declared.Entry.{Entry}
 use Rattle.rules.specs.Events.{moneyOf, posted}
-use Rattle.rules.specs.Laws.Funded.{Funded, booked, total-after, length-after, heldSum-put, heldSum-nth}
+use Rattle.rules.specs.Laws.Funded.{booked, total-after, length-after, heldSum-put, heldSum-nth}
 use Rattle.rules.specs.Laws.Good.{Good, valid-at}
 use Rattle.rules.specs.Laws.Moves.{share-zero}
 use Rattle.rules.specs.Laws.Receipts.{held-own}
 use Rattle.rules.specs.Laws.Tables.{length-put, all-put}
+use Rattle.rules.specs.Ready.{Funded}
 use Rattle.rules.specs.View.{freeAt, recordAt}
 
 -- an entry that stands in an answer, for lot n

@@ -18,7 +18,7 @@ use Rattle.zone.specs.Valid.{noReceipt}
 use Rattle.rules.specs.declared.Entry.{Entry}
 use Rattle.rules.specs.Events.{credit, debit, release, freeze, moneyOf, accountsAfter}
 use Rattle.rules.specs.Laws.Moves.{free-credit, frozen-credit, free-debit, frozen-debit, free-release, frozen-release, free-freeze, frozen-freeze, length-credit, length-debit, length-release, length-freeze, all-debit, all-release, all-freeze, all-pass}
-use Rattle.rules.specs.Ready.{Funds}
+use Rattle.rules.specs.Ready.{Funds, Funded}
 use Rattle.rules.specs.Tables.{nth, put}
 use Rattle.rules.specs.View.{freeAt, frozenAt, receiptAt}
 
@@ -100,10 +100,6 @@ module _ {l : List Account} {old : Hold} {s t : ℕ} {n : Fen} {new : Hold} (F :
       )
 
 -- ── An event ───────────────────────────────────────────────────────────────────────────────────
-
--- what the event with entry e, from record f to record f′, needs
-abbrev pub Funded : List Account → Record → Entry → Record → Type 0
-Funded l f e f′ = Funds l (holdOf f) (e .from) (e .to) (moneyOf e) (holdOf f′)
 
 module _ (l : List Account) (f : Record) (e : Entry) (f′ : Record) where
   pub length-after : length (accountsAfter f e f′ l) ≡ length l

@@ -19,7 +19,7 @@ use Rattle.rules.specs.Effects.{ruleOf, ruleAt, sweeps, noRule}
 use Rattle.rules.specs.Events.{posted, afterLot}
 use Rattle.rules.specs.Laws.Chain.{none, on-event, Visit, swept, named, Chain, stop, link}
 use Rattle.rules.specs.Laws.Fit.{Fit, funded, fit-lot, good-stays}
-use Rattle.rules.specs.Laws.Funded.{Funded}
+use Rattle.rules.specs.Ready.{Funded}
 use Rattle.rules.specs.Laws.Good.{Good, valid-at, ask-at}
 use Rattle.rules.specs.Laws.Kinds.{withKind, ByKind, by-kind}
 use Rattle.rules.specs.Laws.Offers.{FitsAt, register-fit, list-fit, withdrawListing-fit, limitBid-fit, marketBid-fit, withdrawBid-fit, quote-fit, dayClose-fit}

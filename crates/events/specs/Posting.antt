@@ -1,0 +1,22 @@
+-- When an event can be posted.
+-- Assumes nothing.
+use mathlib.Core.Bool.{true}
+use mathlib.Core.Path.{_≡_}
+use Prim.Native.Nat.{_≤_}
+use Rattle.units.specs.Ranges.{receiptCount}
+use Rattle.zone.specs.declared.Receipt.{Receipt}
+use Rattle.zone.specs.declared.Zone.{Zone}
+use Rattle.zone.specs.Record.{recordOf}
+use Rattle.zone.specs.Valid.{recordValid}
+use Rattle.image.specs.Image.{Fits}
+use Rattle.rules.specs.declared.Entry.{Entry}
+use Rattle.rules.specs.Ready.{Funded}
+use Rattle.rules.specs.View.{recordAt}
+
+-- The entry names a lot, the receipt after it is valid, and each move finds its money.
+pub record Postable (z : Zone) (e : Entry) (r : Receipt) : Type 0 where
+  pub fits : Fits z
+  pub low : 1 ≤ e .lot
+  pub high : e .lot ≤ receiptCount
+  pub valid : recordValid (recordOf r) ≡ true
+  pub funded : Funded (z .accounts) (recordAt z (e .lot)) e (recordOf r)
