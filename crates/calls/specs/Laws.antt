@@ -1,8 +1,5 @@
--- Laws of the definitions of this crate.
--- Assumes nothing.
 pub mod Past
 pub mod Over
-pub mod Visits
-pub mod Held
-pub mod Changed
+pub mod Good
 pub mod Swept
+pub mod Lots

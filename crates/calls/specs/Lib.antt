@@ -1,4 +1,3 @@
-pub mod Laws
-pub mod Listed
-pub mod Changed
 pub mod Concerned
+pub mod EntryArray
+pub mod Laws

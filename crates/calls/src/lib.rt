@@ -1,53 +1,59 @@
-// A whole call, in the image: its number, or what it does there and the entries listed. The rules read and give values; the image is
-// changed part by part, through crate `image`.
-ghost use mathlib.Core.Path.{_≡_};
+// A whole call on an image: its outcome, and what an accepted one does there. The rules read and give values; the image is changed part
+// by part.
 ghost use mathlib.Core.Bool.{true};
-ghost use Prim.Native.Nat.{_≤_, _<_};
+ghost use mathlib.Core.Path.{_≡_};
+ghost use Prim.Native.Nat.{_≤_};
 ghost use lib.ListN.{length};
-ghost use Rattle.zone.specs.Held.{holdOf};
-ghost use Rattle.zone.specs.Parts.{withAsks, withReceipts};
-ghost use Rattle.zone.specs.Record.{recordOf};
-ghost use Rattle.image.specs.Image.{validImage, decode, encode};
-ghost use Rattle.image.specs.Laws.RoundTrip.{Fits};
-ghost use Rattle.rules.specs.Effects.{opening, ending, firstLot, lotCount, ruleAt, effect};
-ghost use Rattle.rules.specs.Events.{happen, passed, sweep};
-ghost use Rattle.rules.specs.Laws.Chain.{Path};
-ghost use Rattle.rules.specs.Laws.Good.{Good};
-ghost use Rattle.rules.specs.Outcome.{numberOf};
-ghost use Rattle.rules.specs.Tables.{put};
-ghost use Rattle.rules.specs.View.{viewOf, receiptAt, askAt, freeAt};
-ghost use Rattle.calls.specs.Laws.Visits.{Visits, Happens};
+ghost use Rattle.units.specs.Ranges.{contractCount, receiptCount};
+ghost use Rattle.zone.specs.Valid.{recordValid, validZone};
+ghost use Rattle.image.specs.Image.{validImage, decode, encode, Encoded, Fits};
+ghost use Rattle.image.specs.Layout.{imageLength};
+ghost use Rattle.rules.specs.declared.Step.the-variants.{Accepted};
+ghost use Rattle.rules.specs.Effects.{opening, ending, sweeps, ruleAt, effect};
+ghost use Rattle.rules.specs.Events.{afterLot, sweep};
+ghost use Rattle.rules.specs.Steps.{stepOn, numberOn};
+ghost use Rattle.rules.specs.View.{viewOf, recordAt, askAt, freeAt};
+ghost use Rattle.events.specs.Posting.{CanPost};
 ghost use Rattle.calls.specs.Concerned.{concerned};
-ghost use Rattle.calls.specs.Listed.{entriesOf};
-
-pub mod money;
-
+ghost use Rattle.calls.specs.EntryArray.{entryArray};
+use rules::AtLot;
 use rules::Call;
 use rules::Entry;
+use rules::FreeMoney;
+use rules::KIND_DAY_CLOSE;
+use rules::KIND_MORNING_CLOSE;
+use rules::KIND_PAY_IN;
+use rules::KIND_QUOTE;
+use rules::KIND_TAKE_OUT;
 use rules::Step;
 use rules::View;
 use units::Fen;
+use units::Kilograms;
+use units::RECEIPTS;
 use units::YuanPerTonne;
-use zone::Hold;
+use zone::Lot;
 use zone::Receipt;
+use zone::Record;
+use zone::STATE_BID_STANDS;
+use zone::STATE_LISTED;
+use zone::STATE_LODGED;
+use zone::STATE_PENALTY_DUE;
+use zone::STATE_STRUCK;
 
-// The entries listed; unused places are zero.
+// The entries of a call; unused places are zero.
 pub struct Entries {
     pub count: usize,
-    pub all: [Entry; 128],
+    pub all: [Entry; RECEIPTS],
 }
 
 // ── What a rule reads ───────────────────────────────────────────────────────────────────────────
 
 // Free money of any account number; who is no account has none.
 fn free_of(image: &[u8], a: u8) -> Fen
-    requires { ⌜ length (now image) ≡ 5696 ⌝ }
+    requires { ⌜ length (now image) ≡ imageLength ⌝ }
     ensures { λ r. ⌜ r ≡ freeAt (decode (now (image .entry)) .accounts) a ⌝ }
 {
-    if a == 0 {
-        return Fen(0);
-    }
-    if 96 < a {
+    if !units::is_account(a) {
         return Fen(0);
     }
     let k = (a - 1) as usize;
@@ -55,39 +61,38 @@ fn free_of(image: &[u8], a: u8) -> Fen
     v.free
 }
 
+// The ask of a lot's contract; a receipt without a listing has none.
 fn ask_of(image: &[u8], n: u8) -> YuanPerTonne
-    requires { ⌜ length (now image) ≡ 5696 ⌝ }
+    requires { ⌜ (length (now image) ≡ imageLength) × (n ≤ contractCount) ⌝ }
     ensures { λ r. ⌜ r ≡ askAt (decode (now (image .entry)) .asks) n ⌝ }
 {
     if n == 0 {
-        return YuanPerTonne(0);
-    }
-    if 8 < n {
         return YuanPerTonne(0);
     }
     let k = (n - 1) as usize;
     image::ask_at(image, k)
 }
 
-fn receipt_of(image: &[u8], n: u8) -> Receipt
-    requires { ⌜ length (now image) ≡ 5696 ⌝ }
-    ensures { λ r. ⌜ r ≡ receiptAt (decode (now (image .entry)) .receipts) n ⌝ }
+// The record of any receipt number; a number that is none has the record of no receipt.
+fn record_of(image: &[u8], n: u8) -> Record
+    requires { ⌜ Encoded (now image) × Fits (decode (now image)) ⌝ }
+    ensures { λ r. ⌜ r ≡ recordAt (decode (now (image .entry))) n ⌝ }
 {
-    if n == 0 {
-        return zone::no_receipt();
-    }
-    if 128 < n {
-        return zone::no_receipt();
+    if !units::is_receipt(n) {
+        return zone::record_of(Receipt {
+            owner: 0,
+            weight: Kilograms(0),
+            lot: Lot::Idle,
+        });
     }
     let k = (n - 1) as usize;
-    zone::receipt_of(image::record_at(image, k))
+    image::record_at(image, k)
 }
 
-fn view_of(image: &[u8], a: u8, r: Receipt) -> View
-    requires { ⌜ length (now image) ≡ 5696 ⌝ }
-    ensures { λ v. ⌜ v ≡ viewOf (decode (now (image .entry))) a r ⌝ }
+fn view_of(image: &[u8], a: u8, f: Record) -> View
+    requires { ⌜ (length (now image) ≡ imageLength) × (recordValid f ≡ true) ⌝ }
+    ensures { λ v. ⌜ v ≡ viewOf (decode (now (image .entry))) a f ⌝ }
 {
-    let f = zone::record_of(r);
     let day = image::day_in(image);
     let afternoon = image::afternoon_in(image);
     let ask = ask_of(image, f.contract);
@@ -99,60 +104,33 @@ fn view_of(image: &[u8], a: u8, r: Receipt) -> View
         day: day,
         afternoon: afternoon,
         ask: ask,
-        caller: caller,
-        buyer: buyer,
-        seller: seller,
+        free: FreeMoney {
+            caller: caller,
+            buyer: buyer,
+            seller: seller,
+        },
         total: total,
     }
 }
 
-// ── An event ────────────────────────────────────────────────────────────────────────────────────
+// ── The outcome of a call ───────────────────────────────────────────────────────────────────────
 
-// What passes between two accounts.
-fn passed_by(e: Entry) -> u64
-    ensures { λ r. ⌜ r ≡ passed e ⌝ }
+pub fn step_of(image: &[u8], c: Call) -> Step
+    requires { ⌜ validImage (now image) ≡ true ⌝ }
+    ensures { λ r. ⌜ r ≡ stepOn (decode (now (image .entry))) c ⌝ }
 {
-    let o = e.outcome;
-    if (o == 9) | (o == 11) | (o == 12) | (o == 15) {
-        e.number as u64
-    } else {
-        0
-    }
+    let f = record_of(image, c.receipt);
+    steps::step_at(view_of(image, c.account, f), c, f)
 }
 
-// What the lot of a number holds.
-fn hold_at(image: &[u8], n: u8) -> Hold
-    requires { ⌜ (now image ≡ encode (decode (now image))) × Fits (decode (now image)) × (1 ≤ n) × (n ≤ 128) ⌝ }
-    ensures { λ r. ⌜ r ≡ holdOf (recordOf (receiptAt (decode (now (image .entry)) .receipts) n)) ⌝ }
-{
-    let k = (n - 1) as usize;
-    zone::hold_of(image::record_at(image, k))
-}
+// ── All lots in ascending order ─────────────────────────────────────────────────────────────────
 
-// The receipt of a lot; lot 0 is none, and nothing is put.
-fn put_receipt(image: &mut [u8], lot: u8, r: Receipt)
-    requires { ⌜ (now image ≡ encode (decode (now image))) × (lot ≤ 128) ⌝ }
-    ensures { λ _. ⌜ now (image .exit) ≡ encode (withReceipts (decode (now (image .entry))) (put (decode (now (image .entry)) .receipts) lot r)) ⌝ }
+fn goes_through_all(c: Call) -> bool
+    ensures { λ x. ⌜ x ≡ sweeps (c .kind) ⌝ }
 {
-    if lot == 0 {
-        return;
-    }
-    let k = (lot - 1) as usize;
-    image::set_receipt(image, k, r);
+    let kind = c.kind;
+    (kind == KIND_QUOTE) | (kind == KIND_MORNING_CLOSE) | (kind == KIND_DAY_CLOSE)
 }
-
-// The lot's receipt is changed, and its money follows.
-fn happen_at(image: &mut [u8], e: Entry, new: Receipt)
-    requires { ⌜ (now image ≡ encode (decode (now image))) × Happens (decode (now image)) e new ⌝ }
-    ensures { λ _. ⌜ now (image .exit) ≡ encode (happen (decode (now (image .entry))) e new) ⌝ }
-{
-    let held = hold_at(image, e.lot);
-    put_receipt(image, e.lot, new);
-    let holds = hold_at(image, e.lot);
-    money::move_money(image, held, e.from, e.to, passed_by(e), holds);
-}
-
-// ── The lots in ascending order ─────────────────────────────────────────────────────────────────
 
 // Whether the call's rule can do anything at a lot; the test is cheaper than the rule.
 fn concerns(c: Call, state: u8, contract: u8) -> bool
@@ -160,24 +138,30 @@ fn concerns(c: Call, state: u8, contract: u8) -> bool
 {
     let kind = c.kind;
     match kind {
-        9 => (state == 2) & (contract == c.contract),
-        11 => (state == 3) | (state == 4) | (state == 7),
-        15 => (state == 1) | (state == 2),
-        _ => true,
+        KIND_QUOTE => (state == STATE_BID_STANDS) & (contract == c.contract),
+        KIND_MORNING_CLOSE => {
+            (state == STATE_STRUCK) | (state == STATE_LODGED) | (state == STATE_PENALTY_DUE)
+        }
+        _ => (state == STATE_LISTED) | (state == STATE_BID_STANDS),
     }
 }
 
-// The rule of the call at lot n, which is receipt r.
-fn visit(image: &[u8], c: Call, n: u8, r: Receipt) -> Step
-    requires { ⌜ (length (now image) ≡ 5696) × Visits (decode (now image)) c n r ⌝ }
+// The rule of the call at lot n.
+fn visit(image: &[u8], c: Call, n: u8) -> AtLot
+    requires { ⌜ Encoded (now image) × (validZone (decode (now image)) ≡ true) × (sweeps (c .kind) ≡ true) × (1 ≤ n) × (n ≤ receiptCount) ⌝ }
     ensures { λ x. ⌜ x ≡ ruleAt c (decode (now (image .entry))) n ⌝ }
 {
-    rules::kinds::rule_of(view_of(image, c.account, r), c, n, r)
+    let k = (n - 1) as usize;
+    if !concerns(c, image::state_at(image, k), image::contract_at(image, k)) {
+        return AtLot::NoEvent;
+    }
+    let f = image::record_at(image, k);
+    steps::rule_of(view_of(image, c.account, f), c, n, f)
 }
 
-fn sweep_lots(image: &mut [u8], c: Call, first: u8, more: usize) -> Entries
-    requires { ⌜ (now image ≡ encode (decode (now image))) × Good (decode (now image)) × Path c (decode (now image)) 1 first more ⌝ }
-    ensures { λ r. ⌜ (now (image .exit) ≡ encode (sweep (ruleAt c) more first (decode (now (image .entry))) .zone)) × (r ≡ entriesOf (sweep (ruleAt c) more first (decode (now (image .entry))) .entries)) ⌝ }
+fn sweep_lots(image: &mut [u8], c: Call) -> Entries
+    requires { ⌜ Encoded (now image) × (validZone (decode (now image)) ≡ true) × (sweeps (c .kind) ≡ true) ⌝ }
+    ensures { λ r. ⌜ (now (image .exit) ≡ encode (sweep (ruleAt c) receiptCount 1 (decode (now (image .entry))) .zone)) × (r ≡ entryArray (sweep (ruleAt c) receiptCount 1 (decode (now (image .entry))) .entries)) ⌝ }
 {
     let none = Entry {
         lot: 0,
@@ -187,23 +171,17 @@ fn sweep_lots(image: &mut [u8], c: Call, first: u8, more: usize) -> Entries
         number: 0,
     };
     let mut count: usize = 0;
-    let mut entries = [none; 128];
+    let mut entries = [none; RECEIPTS];
     let mut i: usize = 0;
-    while i < more {
-        let n = first + (i as u8);
-        let k = (n - 1) as usize;
-        if concerns(c, image::state_at(image, k), image::contract_at(image, k)) {
-            let r = zone::receipt_of(image::record_at(image, k));
-            let step = visit(image, c, n, r);
-            match step {
-                Step::Event(e, new) => {
-                    happen_at(image, e, new);
-                    entries[count] = e;
-                    count += 1;
-                }
-                Step::NoEvent => {}
-                Step::Refused(_) => {}
+    while i < RECEIPTS {
+        let at = visit(image, c, (i as u8) + 1);
+        match at {
+            AtLot::Event(e, r) => {
+                events::post(image, e, r);
+                entries[count] = e;
+                count += 1;
             }
+            AtLot::NoEvent => {}
         }
         i += 1;
     }
@@ -213,100 +191,93 @@ fn sweep_lots(image: &mut [u8], c: Call, first: u8, more: usize) -> Entries
     }
 }
 
-// ── Opening and ending ──────────────────────────────────────────────────────────────────────────
+// ── One lot ─────────────────────────────────────────────────────────────────────────────────────
 
-// The ask of a contract; contract 0 is none, and nothing is put.
-fn put_ask(image: &mut [u8], contract: u8, ask: YuanPerTonne)
-    requires { ⌜ (now image ≡ encode (decode (now image))) × (contract ≤ 8) ⌝ }
-    ensures { λ _. ⌜ now (image .exit) ≡ encode (withAsks (decode (now (image .entry))) (put (decode (now (image .entry)) .asks) contract ask)) ⌝ }
+// What a call did at its receipt: an event is posted, and is the one entry.
+fn post_one(image: &mut [u8], at: AtLot) -> Entries
+    requires { ⌜ Encoded (now image) × CanPost (decode (now image)) at ⌝ }
+    ensures { λ r. ⌜ (now (image .exit) ≡ encode (afterLot (decode (now (image .entry))) at .zone)) × (r ≡ entryArray (afterLot (decode (now (image .entry))) at .entries)) ⌝ }
 {
-    if contract == 0 {
-        return;
+    let none = Entry {
+        lot: 0,
+        outcome: 0,
+        from: 0,
+        to: 0,
+        number: 0,
+    };
+    let mut entries = [none; RECEIPTS];
+    match at {
+        AtLot::Event(e, r) => {
+            events::post(image, e, r);
+            entries[0] = e;
+            Entries {
+                count: 1,
+                all: entries,
+            }
+        }
+        AtLot::NoEvent => Entries {
+            count: 0,
+            all: entries,
+        },
     }
-    let k = (contract - 1) as usize;
-    image::set_ask(image, k, ask);
 }
 
+// ── Opening and ending ──────────────────────────────────────────────────────────────────────────
+
 fn open_call(image: &mut [u8], c: Call)
-    requires { ⌜ (now image ≡ encode (decode (now image))) × Good (decode (now image)) × (numberOf (decode (now image)) c ≡ 0) ⌝ }
+    requires { ⌜ Encoded (now image) × (validZone (decode (now image)) ≡ true) × (numberOn (decode (now image)) c ≡ 0) ⌝ }
     ensures { λ _. ⌜ now (image .exit) ≡ encode (opening c (decode (now (image .entry)))) ⌝ }
 {
     let kind = c.kind;
     let total = image::total_in(image);
     match kind {
-        1 => {
-            money::give_to(image, c.account, c.amount);
-            image::set_total(image, Fen(total.0 + c.amount));
+        KIND_PAY_IN => {
+            events::money::credit_to(image, c.account, Fen(c.amount));
+            put::total(image, Fen(total.0 + c.amount));
         }
-        2 => {
-            money::take_from(image, c.account, c.amount);
-            image::set_total(image, Fen(total.0 - c.amount));
+        KIND_TAKE_OUT => {
+            events::money::debit_from(image, c.account, Fen(c.amount));
+            put::total(image, Fen(total.0 - c.amount));
         }
-        9 => {
-            put_ask(image, c.contract, YuanPerTonne(c.amount as u32));
+        KIND_QUOTE => {
+            let k = (c.contract - 1) as usize;
+            put::ask(image, k, YuanPerTonne(c.amount as u32));
         }
         _ => {}
     }
 }
 
 fn end_call(image: &mut [u8], c: Call)
-    requires { ⌜ (now image ≡ encode (decode (now image))) × Good (decode (now image)) ⌝ }
+    requires { ⌜ Encoded (now image) × Fits (decode (now image)) ⌝ }
     ensures { λ _. ⌜ now (image .exit) ≡ encode (ending c (decode (now (image .entry)))) ⌝ }
 {
     let kind = c.kind;
     let day = image::day_in(image);
     match kind {
-        11 => {
-            image::set_clock(image, day, true);
+        KIND_MORNING_CLOSE => {
+            put::clock(image, day, true);
         }
-        15 => {
-            image::clear_asks(image);
-            image::set_clock(image, day + 1, false);
+        KIND_DAY_CLOSE => {
+            put::no_asks(image);
+            put::clock(image, day + 1, false);
         }
         _ => {}
     }
 }
 
-fn first_lot(c: Call) -> u8
-    ensures { λ r. ⌜ r ≡ firstLot c ⌝ }
-{
-    let kind = c.kind;
-    match kind {
-        9 | 11 | 15 => 1,
-        _ => c.receipt,
-    }
-}
-
-fn lot_count(c: Call) -> usize
-    ensures { λ r. ⌜ r ≡ lotCount c ⌝ }
-{
-    let kind = c.kind;
-    match kind {
-        1 => 0,
-        2 => 0,
-        9 | 11 | 15 => 128,
-        _ => 1,
-    }
-}
-
 // ── The whole call ──────────────────────────────────────────────────────────────────────────────
 
-pub fn number_of(image: &[u8], c: Call) -> u8
-    requires { ⌜ validImage (now image) ≡ true ⌝ }
-    ensures { λ r. ⌜ r ≡ numberOf (decode (now (image .entry))) c ⌝ }
-{
-    let r = receipt_of(image, c.receipt);
-    let step = numbers::outcome::step_at(view_of(image, c.account, r), c, r);
-    numbers::outcome::step_number(step)
-}
-
-// What a call of number 0 does.
-pub fn perform(image: &mut [u8], c: Call) -> Entries
-    requires { ⌜ (validImage (now image) ≡ true) × (numberOf (decode (now image)) c ≡ 0) ⌝ }
-    ensures { λ r. ⌜ (now (image .exit) ≡ encode (effect (decode (now (image .entry))) c .zone)) × (r ≡ entriesOf (effect (decode (now (image .entry))) c .entries)) ⌝ }
+// What an accepted call does, where `at` is what it does at the receipt that it names.
+pub fn perform(image: &mut [u8], c: Call, at: AtLot) -> Entries
+    requires { ⌜ (validImage (now image) ≡ true) × (stepOn (decode (now image)) c ≡ Accepted at) ⌝ }
+    ensures { λ r. ⌜ (now (image .exit) ≡ encode (effect (decode (now (image .entry))) c .zone)) × (r ≡ entryArray (effect (decode (now (image .entry))) c .entries)) ⌝ }
 {
     open_call(image, c);
-    let entries = sweep_lots(image, c, first_lot(c), lot_count(c));
+    let entries = if goes_through_all(c) {
+        sweep_lots(image, c)
+    } else {
+        post_one(image, at)
+    };
     end_call(image, c);
     entries
 }

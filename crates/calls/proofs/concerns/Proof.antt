@@ -17,11 +17,7 @@ returns-2 c = rw (c .match .keys2) (sym (among-joined (c .before .args .state) 3
 
 returns-3 : tie.Need-returns-3
 unfolding concerned
-returns-3 c = rw (c .match .keys3) (sym (among-joined (c .before .args .state) 1 (2 ∷ [])))
-
-returns-4 : tie.Need-returns-4
-unfolding concerned
-returns-4 c = rw (ne-eqb _ 9 (c .match .rest .0 .0 .1), ne-eqb _ 11 (c .match .rest .0 .1), ne-eqb _ 15 (c .match .rest .1))
+returns-3 c = rw (ne-eqb _ 9 (c .match .rest .0 .1), ne-eqb _ 11 (c .match .rest .1)) (sym (among-joined (c .before .args .state) 1 (2 ∷ [])))
 
 pub concerns-spec : {M : Type 1} → statement M
-concerns-spec = tie.close (tie.spec returns returns-2 returns-3 returns-4)
+concerns-spec = tie.close (tie.spec returns returns-2 returns-3)

@@ -1,91 +1,124 @@
 -- An opening, the lots that the call names, an ending; each leaves the image of a good zone.
-use mathlib.Core.Path.{_≡_, sym, ap, _∙_}
-use native.Mathlib.Omega.{arith}
+use mathlib.Core.Bool.{true, false}
+use mathlib.Core.List.{List}
+use mathlib.Core.Logic.{⊎-elim}
+use mathlib.Core.Path.{_≡_, sym, ap, _∙_, subst}
+use Prim.Native.Nat.{ℕ}
 use denote.Ref.{now}
+use lib.ListN.{length}
+use Rattle.units.specs.Ranges.{receiptCount}
 use Rattle.zone.specs.declared.Zone.{Zone}
 use Rattle.image.specs.Image.{decode, encode}
-use Rattle.image.specs.Laws.RoundTrip.{encode-decode, valid-decode}
-use Rattle.rules.specs.Effects.{ruleAt, opening, ending, lotCount, firstLot, effect}
-use Rattle.rules.specs.Events.{sweep}
-use Rattle.rules.specs.Laws.Chain.{Path, path-of}
-use Rattle.rules.specs.Laws.Good.{Good, good-of}
-use Rattle.rules.specs.Laws.Keeps.{opening-good}
-use Rattle.rules.specs.Laws.Passed.{passed-at}
-use Rattle.calls.specs.Laws.Held.{sized-decode, held, same}
-use Rattle.calls.specs.Laws.Swept.{good-at}
+use Rattle.image.specs.Laws.RoundTrip.{encode-decode, length-encode, valid-long, valid-decode}
+use Rattle.rules.specs.Effects.{ruleAt, sweeps, opening, ending, lotCount, firstLot, effect}
+use Rattle.rules.specs.Events.{Done, afterLot, sweep}
+use Rattle.rules.specs.Laws.Chain.{path-of, sweep-chain, taken}
+use Rattle.rules.specs.Laws.Good.{Good}
+use Rattle.rules.specs.Laws.Keeps.{opening-good, taken-good}
+use Rattle.rules.specs.Laws.Links.{last-good}
+use Rattle.rules.specs.Laws.Passed.{PassedAt, passed-at}
+use Rattle.rules.specs.Laws.Steps.{AcceptedAs, accepted-as}
+use Rattle.events.specs.Posting.{CanPost}
+use Rattle.calls.specs.declared.Entries.{Entries}
+use Rattle.calls.specs.EntryArray.{entryArray}
+use Rattle.calls.specs.Laws.Good.{Of, bytes-of, good-decode}
+use Rattle.calls.specs.Laws.Lots.{AtReceipt, at-receipt, all-lots}
 use borrow.Author.Needs.{needs}
 use Rattle.calls.proofs.perform.Statement.{statement}
 use Rattle.calls.proofs.perform.Tie as tie
 
--- ── Good zones on the way ──────────────────────────────────────────────────────────────────────
+-- ── Zones on the way ───────────────────────────────────────────────────────────────────────────
 
-good : (c : tie.Start) → Good (decode (now (c .args .image)))
-good c = good-of _ (sized-decode _) (valid-decode _ (c .pre .0))
+abbrev before-it : (c : tie.Start) → Zone
+before-it c = decode (now (c .args .image))
 
-opened : (c : tie.Start) → Good (opening (c .args .c) (decode (now (c .args .image))))
-opened c = opening-good _ (good c) (c .args .c) (passed-at _ (c .args .c) (c .pre .1))
+accepted : (c : tie.Start) → AcceptedAs (before-it c) (c .args .c) (c .args .at)
+accepted c = accepted-as (before-it c) (c .args .c) (c .args .at) (c .pre .1)
 
-lots : (c : tie.Start) → Path (c .args .c) (opening (c .args .c) (decode (now (c .args .image)))) 1 (firstLot (c .args .c)) (lotCount (c .args .c))
-lots c = path-of _ (c .args .c) (passed-at _ (c .args .c) (c .pre .1))
+good : (c : tie.Start) → Good (before-it c)
+good c = good-decode _ (valid-decode _ (c .pre .0))
 
--- the zone after the lots
-abbrev swept : (c : tie.Start) → Zone
-swept c = sweep (ruleAt (c .args .c)) (lotCount (c .args .c)) (firstLot (c .args .c)) (opening (c .args .c) (decode (now (c .args .image)))) .zone
+passed : (c : tie.Start) → PassedAt (c .args .c) (before-it c) (c .args .c .receipt)
+passed c = passed-at (before-it c) (c .args .c) (accepted c .number)
 
-good-swept : (c : tie.Start) → Good (swept c)
-good-swept c = good-at (c .args .c) _ (firstLot (c .args .c)) (lotCount (c .args .c)) (opened c) (lots c) (lotCount (c .args .c)) (omega arith)
+good-opened : (c : tie.Start) → Good (opening (c .args .c) (before-it c))
+good-opened c = opening-good (before-it c) (good c) (c .args .c) (passed c)
+
+-- what the lots leave
+abbrev lots : (c : tie.Start) → Done
+lots c = sweep (ruleAt (c .args .c)) (lotCount (c .args .c)) (firstLot (c .args .c)) (opening (c .args .c) (before-it c))
+
+good-lots : (c : tie.Start) → Good (lots c .zone)
+good-lots c = last-good (sweep-chain (c .args .c) (lotCount (c .args .c)) (firstLot (c .args .c)) 1 _ (path-of (before-it c) (c .args .c) (passed c))) (good-opened c)
+
+at-its-receipt : (c : tie.Start) → sweeps (c .args .c .kind) ≡ false → AtReceipt (c .args .c) (before-it c)
+at-its-receipt c s = at-receipt (before-it c) (good c) (c .args .c) (passed c) s
+
+its-own : (c : tie.Start) → sweeps (c .args .c .kind) ≡ false → lots c ≡ afterLot (opening (c .args .c) (before-it c)) (c .args .at)
+its-own c s = at-its-receipt c s .lots ∙ ap (afterLot (opening (c .args .c) (before-it c))) (accepted c .rule)
 
 -- ── The image on the way ───────────────────────────────────────────────────────────────────────
 
-zone-opened : (c : tie.After-open-call) → decode (c .open-call .last .0) ≡ opening (c .before .before .before .args .c) (decode (now (c .before .before .before .args .image)))
-zone-opened c = held _ _ (c .open-call .ensures) (opened (c .before .before .before))
+opened : (c : tie.After-open-call) → Of (c .open-call .last .0) (opening (c .before .before .before .args .c) (before-it (c .before .before .before)))
+opened c = bytes-of _ _ (c .open-call .ensures) (good-opened (c .before .before .before))
 
-image-swept : (c : tie.After-sweep-lots) → c .sweep-lots .last .0 ≡ encode (swept (c .before .before .before .before .before .before .before .before .before))
-image-swept c = c .sweep-lots .ensures .0 ∙ rw (c .before .lot-count .ensures, c .before .before .first-lot .ensures, zone-opened (c .before .before .before .before .before .before))
+record Left (s : List ℕ) (es : Entries) (d : Done) : Type 0 where
+  image : s ≡ encode (d .zone)
+  entries : es ≡ entryArray (d .entries)
 
-zone-swept : (c : tie.After-sweep-lots) → decode (c .sweep-lots .last .0) ≡ swept (c .before .before .before .before .before .before .before .before .before)
-zone-swept c = held _ _ (image-swept c) (good-swept (c .before .before .before .before .before .before .before .before .before))
+left : (c : tie.Joined1) → Left (c .if1 .image) (c .if1 .entries) (lots (c .before .before .before .before .before .before .before))
+left c =
+    let O = opened (c .before .before .before .before) in
+    ⊎-elim
+    (λ w. let A = all-lots (c .before .before .before .before .before .before .before .args .c) (sym (c .before .goes-through-all .ensures) ∙ w .0 .taken) in
+    record {
+      image = w .5 ∙ w .2 .ensures .0 ∙ ap (λ (y : Zone). encode (sweep (ruleAt (c .before .before .before .before .before .before .before .args .c)) receiptCount 1 y .zone)) (O .zone) ∙ rw (A .0, A .1);
+      entries = w .6 ∙ w .2 .ensures .1 ∙ ap (λ (y : Zone). entryArray (sweep (ruleAt (c .before .before .before .before .before .before .before .args .c)) receiptCount 1 y .entries)) (O .zone) ∙ rw (A .0, A .1);
+    })
+    (λ w. let e = its-own (c .before .before .before .before .before .before .before) (sym (c .before .goes-through-all .ensures) ∙ w .0 .left) in
+    record {
+      image = w .5 ∙ w .2 .ensures .0 ∙ ap (λ (y : Zone). encode (afterLot y (c .before .before .before .before .before .before .before .args .at) .zone)) (O .zone) ∙ ap (λ (d : Done). encode (d .zone)) (sym e);
+      entries = w .6 ∙ w .2 .ensures .1 ∙ ap (λ (y : Zone). entryArray (afterLot y (c .before .before .before .before .before .before .before .args .at) .entries)) (O .zone) ∙ ap (λ (d : Done). entryArray (d .entries)) (sym e);
+    })
+    (c .if1 .came)
+
+performed : (c : tie.After-end-call) → c .end-call .last .0 ≡ encode (effect (before-it (c .before .before .before .before .before .before .before .before .before)) (c .before .before .before .before .before .before .before .before .before .args .c) .zone)
+unfolding effect
+performed c = c .end-call .ensures ∙ ap (λ (z : Zone). encode (ending (c .before .before .before .before .before .before .before .before .before .args .c) z)) (bytes-of _ _ (left (c .before .before) .image) (good-lots (c .before .before .before .before .before .before .before .before .before)) .zone)
 
 open-call-requires : tie.Need-open-call-requires
-open-call-requires c κs = (sym (encode-decode _ (c .before .before .pre .0) (λ k. c .before .slice-known .given k .fits)), good (c .before .before), c .before .before .pre .1)
+open-call-requires c κs = (sym (encode-decode _ (c .before .before .pre .0) (λ k. c .before .slice-known .given k .fits)), valid-decode _ (c .before .before .pre .0), accepted (c .before .before) .number)
 
-first-lot-requires : tie.Need-first-lot-requires
-first-lot-requires c κs = search needs
-
-lot-count-requires : tie.Need-lot-count-requires
-lot-count-requires c κs = search needs
+goes-through-all-requires : tie.Need-goes-through-all-requires
+goes-through-all-requires c κs = search needs
 
 sweep-lots-requires : tie.Need-sweep-lots-requires
-sweep-lots-requires c κs =
-    let o = c .before .before .before .before .before .before .before .before in
-    let d = zone-opened (c .before .before .before .before .before) in
-    (same _ _ (c .before .before .before .before .before .open-call .ensures) d, rw d (opened o), rw (d, c .before .first-lot .ensures, c .lot-count .ensures) (lots o))
+sweep-lots-requires c κs = let O = opened (c .before .before .before .before .before) in (O .encoded, O .valid, sym (c .before .before .goes-through-all .ensures) ∙ c .before .if1 .taken)
+
+post-one-requires : tie.Need-post-one-requires
+post-one-requires c κs =
+    let O = opened (c .before .before .before .before .before) in
+    let R = at-its-receipt (c .before .before .before .before .before .before .before .before) (sym (c .before .before .goes-through-all .ensures) ∙ c .before .if1 .left) in
+    (O .encoded, rw (O .zone) (subst (CanPost _) (accepted (c .before .before .before .before .before .before .before .before) .rule) (R .posts)))
 
 end-call-requires : tie.Need-end-call-requires
-end-call-requires c κs =
-    let o = c .before .before .before in
-    let d = zone-swept o in
-    (same _ _ (image-swept o) d, rw d (good-swept (c .before .before .before .before .before .before .before .before .before .before .before .before)))
+end-call-requires c κs = let L = left (c .before) in let O = bytes-of _ _ (L .image) (good-lots (c .before .before .before .before .before .before .before .before)) in (O .encoded, O .fits)
 
 same-length : tie.Need-same-length
-same-length c = search needs
+same-length c = ap length (performed (c .before .before)) ∙ length-encode _ (taken-good (taken _ (c .before .before .before .before .before .before .before .before .before .before .before .args .c) (accepted (c .before .before .before .before .before .before .before .before .before .before .before) .number)) (good (c .before .before .before .before .before .before .before .before .before .before .before)) .sized) ∙ sym (valid-long _ (c .before .before .before .before .before .before .before .before .before .before .before .pre .0))
 
 returns : tie.Need-returns
 unfolding effect
-returns c =
-    let d = zone-opened (c .before .before .before .before .before .before .before .before .before .before .before .before) in (
-      c .before .before .end-call .ensures ∙ ap (λ (z : Zone). encode (ending (c .before .before .before .before .before .before .before .before .before .before .before .before .before .before .before .args .c) z)) (zone-swept (c .before .before .before .before .before .before)),
-      c .before .before .before .before .before .before .sweep-lots .ensures .1 ∙ rw (c .before .before .before .before .before .before .before .lot-count .ensures, c .before .before .before .before .before .before .before .before .first-lot .ensures, d),
-    )
+returns c = (performed (c .before .before), left (c .before .before .before .before) .entries)
 
 pub perform-spec : {M : Type 1} → statement M
 perform-spec =
     tie.close
     (tie.spec
     open-call-requires
-    first-lot-requires
-    lot-count-requires
+    goes-through-all-requires
     sweep-lots-requires
+    post-one-requires
     end-call-requires
     same-length
     returns)

@@ -2,34 +2,35 @@
 -- Assumes nothing.
 use mathlib.Core.Bool.{Bool, true, false, _&&_, true≢false}
 use mathlib.Core.List.{[], _∷_}
-use mathlib.Core.Path.{_≡_, refl}
+use mathlib.Core.Path.{_≡_}
 use Prim.Native.Nat.{ℕ}
-use borrow.Author.Tests.{eqb-true}
 use lib.Dec.{eqb}
-use Rattle.zone.specs.declared.Receipt.{Receipt}
-use Rattle.zone.specs.Record.{recordOf}
+use Rattle.zone.specs.declared.Record.{Record}
+use Rattle.rules.specs.declared.AtLot.the-variants.{NoEvent}
 use Rattle.rules.specs.declared.Call.{Call}
-use Rattle.rules.specs.declared.Step.the-variants.{NoEvent}
 use Rattle.rules.specs.declared.View.{View}
-use Rattle.rules.specs.Effects.{ruleOf, quoteLot, closeLot, dayCloseLot}
+use Rattle.rules.specs.Effects.{ruleOf, sweeps, quoteLot, closeLot, dayCloseLot}
+use Rattle.rules.specs.Laws.Kinds.{withKind}
+use Rattle.rules.specs.Laws.Tables.{among-each}
 use Rattle.rules.specs.Tables.{among}
 use Rattle.calls.specs.Concerned.{concerned}
 
-pub passed-over : (v : View) (c : Call) (n : ℕ) (r : Receipt) → concerned c (recordOf r .state) (recordOf r .contract) ≡ false → ruleOf (c .kind) v c n r ≡ NoEvent
-unfolding concerned ruleOf quoteLot closeLot dayCloseLot
-passed-over v c n r h = go (eqb (c .kind) 9) (eqb (c .kind) 11) (eqb (c .kind) 15) refl refl refl
-  where
-    go : (x y w : Bool) → eqb (c .kind) 9 ≡ x → eqb (c .kind) 11 ≡ y → eqb (c .kind) 15 ≡ w → ruleOf (c .kind) v c n r ≡ NoEvent
-    go true y w p q s =
-        let e = eqb-true (c .kind) 9 p in
-        let o : eqb (recordOf r .state) 2 && eqb (recordOf r .contract) (c .contract) ≡ false = rw e at h in
-        rw (e, o)
-    go false true w p q s =
-        let e = eqb-true (c .kind) 11 q in
-        let o : among (recordOf r .state) (3 ∷ 4 ∷ 7 ∷ []) ≡ false = rw e at h in
-        rw (e, o)
-    go false false true p q s =
-        let e = eqb-true (c .kind) 15 s in
-        let o : among (recordOf r .state) (1 ∷ 2 ∷ []) ≡ false = rw e at h in
-        rw (e, o)
-    go false false false p q s = absurd (true≢false (rw (p, q, s) at h))
+module _ (v : View) (c : Call) (n : ℕ) (f : Record) where
+  Over : ℕ → Type 0
+  Over k = concerned (withKind c k) (f .state) (f .contract) ≡ false → ruleOf k v c n f ≡ NoEvent
+
+  quote : Over 9
+  unfolding Over concerned ruleOf quoteLot
+  quote h = rw h
+
+  morning : Over 11
+  unfolding Over concerned ruleOf closeLot
+  morning h = rw h
+
+  day : Over 15
+  unfolding Over concerned ruleOf dayCloseLot
+  day h = rw h
+
+  pub passed-over : sweeps (c .kind) ≡ true → concerned c (f .state) (f .contract) ≡ false → ruleOf (c .kind) v c n f ≡ NoEvent
+  unfolding Over
+  passed-over s = among-each Over (c .kind) (9 ∷ 11 ∷ 15 ∷ []) (quote, (morning, (day, tt))) s
