@@ -1,21 +1,37 @@
--- The call record and the answer buffer as bytes (document 01, "Calls" and "Answers and turned-down calls").
+-- The call record and the answer buffer as bytes (01 Calls 2, Answers 1 to 3, 8). Every length is named here once; src/lib.rt has a
+-- const for each.
 -- Assumes nothing.
 use mathlib.Core.Bool.{Bool, cond}
 use mathlib.Core.List.{List, [], _∷_, _++_}
-use Prim.Native.Nat.{ℕ, _+_, _-_}
+use Prim.Native.Nat.{ℕ, _+_, _-_, _*_}
 use lib.Dec.{eqb}
 use lib.IntN.{pos}
 use lib.ListN.{length, getD, drop, replicate}
 use Rattle.wire.specs.LittleEndian.{leAt, leBytes, signed32}
+use Rattle.units.specs.Ranges.{receiptCount}
 use Rattle.zone.specs.declared.Zone.{Zone}
 use Rattle.rules.specs.declared.Call.{Call}
 use Rattle.rules.specs.declared.Entry.{Entry}
 use Rattle.image.specs.Table.{table, tableBytes, recordAt}
 
--- "Call: kind, account, receipt, contract, D, three zero bytes, amount or price u64, basis i32, weight u32." 24 bytes
+-- ── Lengths ────────────────────────────────────────────────────────────────────────────────────
+
 abbrev pub callLength : ℕ
 callLength = 24
 
+abbrev pub answerHeader : ℕ
+answerHeader = 16
+
+abbrev pub entryLength : ℕ
+entryLength = 8
+
+-- a header, and room for an entry of each lot
+abbrev pub answerLength : ℕ
+answerLength = answerHeader + receiptCount * entryLength
+
+-- ── The call record ────────────────────────────────────────────────────────────────────────────
+
+-- single bytes, three spare ones, then an amount or a price, the basis and the weight
 unfoldable pub callIn : List ℕ → Call
 callIn b =
     record {
@@ -30,48 +46,45 @@ callIn b =
       weight = leAt 4 b 20;
     }
 
--- No kind is 0, so number 3 refuses it.
+-- a call of no kind, which number 3 refuses
 abbrev pub noCall : Call
 noCall =
     record { kind = 0; account = 0; receipt = 0; contract = 0; days = 0; spare = 0; amount = 0; basis = pos 0; weight = 0 }
 
--- What the code makes of a record of any length. No promise of a public function cites it.
+-- what the code makes of a record of any length
 unfoldable pub callOrNone : List ℕ → Call
 callOrNone b = cond (eqb (length b) callLength) (callIn b) noCall
 
--- "zeros to byte 1,040"
-abbrev pub answerLength : ℕ
-answerLength = 1040
+-- ── The answer ─────────────────────────────────────────────────────────────────────────────────
 
--- "Entry: lot, outcome, from, to, u32."
+-- lot, outcome, from and to in a byte each, then the number
 unfoldable pub entryBytes : Entry → List ℕ
 entryBytes e = e .lot ∷ e .outcome ∷ e .from ∷ e .to ∷ leBytes 4 (e .number)
 
--- "Accepted: number 0, phase after, entry count u16, u32 offset 16, total u64,"
+-- number 0, the phase after the call, how many entries, where they start, the total after the call
 unfoldable pub headerOf : Bool → ℕ → ℕ → List ℕ
-headerOf afternoon count total = 0 ∷ cond afternoon 1 0 ∷ leBytes 2 count ++ leBytes 4 16 ++ leBytes 8 total
+headerOf afternoon count total = 0 ∷ cond afternoon 1 0 ∷ leBytes 2 count ++ leBytes 4 answerHeader ++ leBytes 8 total
 
--- "then entries"
 unfoldable pub acceptedBytes : Zone → List Entry → List ℕ
 acceptedBytes z es = headerOf (z .afternoon) (length es) (z .total .0) ++ tableBytes entryBytes es
 
--- the bytes from byte 0 on, "zeros to byte 1,040. Bytes past 1,040 keep their content." The bytes are at most 16 and 128 entries of 8,
--- so the difference never stops at 0.
-unfoldable pub filled : List ℕ → List ℕ → List ℕ
-filled bytes old = bytes ++ replicate (answerLength - length bytes) 0 ++ drop answerLength old
+-- The bytes from the start of the answer on, zeros behind them to its length, and what stands past that as it was. Nothing is taken
+-- that is not there: no call lists more than an entry a lot (`effect-few`, Laws/Entries).
+unfoldable pub padded : List ℕ → List ℕ → List ℕ
+padded bytes old = bytes ++ replicate (answerLength - length bytes) 0 ++ drop answerLength old
 
--- "answer byte 0 the number, zeros to 1,040"
+-- of a refusal: the number alone
 abbrev pub refusedAnswer : ℕ → List ℕ → List ℕ
-refusedAnswer n old = filled (n ∷ []) old
+refusedAnswer n old = padded (n ∷ []) old
 
 abbrev pub acceptedAnswer : Zone → List Entry → List ℕ → List ℕ
-acceptedAnswer z es old = filled (acceptedBytes z es) old
+acceptedAnswer z es old = padded (acceptedBytes z es) old
 
 -- ── What a host reads in an answer ─────────────────────────────────────────────────────────────
 
 unfoldable pub entryIn : List ℕ → Entry
 entryIn b = record { lot = getD b 0 0; outcome = getD b 1 0; from = getD b 2 0; to = getD b 3 0; number = leAt 4 b 4 }
 
--- as many as the count at 2 says, from the offset at 4 on
+-- as many as the answer says, from where it says on
 unfoldable pub entriesIn : List ℕ → List Entry
-entriesIn answer = table (leAt 2 answer 2) (λ i. entryIn (recordAt (leAt 4 answer 4) 8 answer i))
+entriesIn answer = table (leAt 2 answer 2) (λ i. entryIn (recordAt (leAt 4 answer 4) entryLength answer i))

@@ -1,4 +1,4 @@
--- The fresh entry (document 01, "Calls").
+-- The fresh entry (01 Calls 1).
 -- Assumes nothing.
 use mathlib.Core.Bool.{cond}
 use mathlib.Core.List.{List}
@@ -9,7 +9,6 @@ use Rattle.zone.specs.Valid.{freshZone}
 use Rattle.image.specs.Image.{encode}
 use Rattle.image.specs.Layout.{imageLength}
 
--- "another entry writes a fresh image into 5,696 bytes and returns 0; for any other length it returns 2 and writes nothing":
--- the number, and what the buffer then holds
+-- the number that it returns, and what the buffer then holds: a fresh image, or what it was where its length is another
 unfoldable pub freshEntry : List ℕ → ℕ × List ℕ
 freshEntry s = cond (eqb (length s) imageLength) (0, encode freshZone) (2, s)

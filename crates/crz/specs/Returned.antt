@@ -1,5 +1,5 @@
--- What a call returns, and leaves in the image and in the answer (document 01, "Answers and turned-down calls").
--- An equation but for one thing, the order of a quote's entries (`Listed`).
+-- What a call returns, and leaves in the image and in the answer (01 Answers). An equation but for one thing, the order of a quote's
+-- entries (`AnswerOrder`).
 -- Assumes nothing.
 use mathlib.Core.Bool.{not, cond}
 use mathlib.Core.List.{List}
@@ -10,44 +10,44 @@ use lib.ListN.{length}
 use Rattle.rules.specs.declared.Call.{Call}
 use Rattle.rules.specs.declared.Entry.{Entry}
 use Rattle.rules.specs.Effects.{effect}
-use Rattle.rules.specs.Order.{Listed}
-use Rattle.rules.specs.Outcome.{numberOf}
+use Rattle.rules.specs.Order.{AnswerOrder}
+use Rattle.rules.specs.Steps.{numberOn}
 use Rattle.image.specs.Image.{validImage, decode, encode}
 use Rattle.crz.specs.Buffers.{callLength, callIn, answerLength, refusedAnswer, acceptedAnswer}
 
 -- ── The number ─────────────────────────────────────────────────────────────────────────────────
 
--- 1 "answer buffer under 1,040 bytes", 2 "image not 5,696 bytes or not valid", else a number of the call
-unfoldable pub numberOr : List ℕ → List ℕ → ℕ → ℕ
-numberOr image answer n = cond (ltb (length answer) answerLength) 1 (cond (not (validImage image)) 2 n)
+-- n, behind the numbers of the buffers (01 Answers 12, 13): 1 for a short answer, 2 for an image of another length or that is not valid
+unfoldable pub behindBuffers : List ℕ → List ℕ → ℕ → ℕ
+behindBuffers image answer n = cond (ltb (length answer) answerLength) 1 (cond (not (validImage image)) 2 n)
 
 -- the number of a call on the zone that the image is
-unfoldable pub numberWith : List ℕ → Call → List ℕ → ℕ
-numberWith image c answer = numberOr image answer (numberOf (decode image) c)
+unfoldable pub callNumber : List ℕ → Call → List ℕ → ℕ
+callNumber image c answer = behindBuffers image answer (numberOn (decode image) c)
 
--- "The lowest number that applies is returned": 3 "call not 24 bytes" comes before what its fields may break
-unfoldable pub numberFor : List ℕ → List ℕ → List ℕ → ℕ
-numberFor image call answer =
-    cond (eqb (length call) callLength) (numberWith image (callIn call) answer) (numberOr image answer 3)
+-- the number of a call record (01 Answers 14): a record of another length is refused by 3 before its fields are looked at
+unfoldable pub recordNumber : List ℕ → List ℕ → List ℕ → ℕ
+recordNumber image call answer =
+    cond (eqb (length call) callLength) (callNumber image (callIn call) answer) (behindBuffers image answer 3)
 
 -- ── What is left behind ────────────────────────────────────────────────────────────────────────
 
--- in the answer of a refusal: 1 "nothing written"; 2 to 13 "answer byte 0 the number, zeros to 1,040"
+-- in the answer of a refusal (01 Answers 9 to 11): by 1 nothing is written, by any other the number stands before zeros
 unfoldable pub refusal : ℕ → List ℕ → List ℕ
 refusal n answer = cond (eqb n 1) answer (refusedAnswer n answer)
 
--- By the number returned. A refusal: "image unchanged". 0: the image of the zone after the call, and the answer with its entries.
+-- By the number returned. A refusal leaves the image; an accepted call the image of the zone after it, and the answer with its entries.
 pub data Left (image : List ℕ) (c : Call) (answer : List ℕ) : ℕ → List ℕ → List ℕ → Type 0 where
-  turnedDown : (n : ℕ) → Left image c answer (suc n) image (refusal (suc n) answer)
-  carriedOut : (es : List Entry) → Listed c (effect (decode image) c .entries) es
+  refused : (n : ℕ) → Left image c answer (suc n) image (refusal (suc n) answer)
+  accepted : (es : List Entry) → AnswerOrder c (effect (decode image) c .entries) es
       → Left image c answer 0 (encode (effect (decode image) c .zone)) (acceptedAnswer (effect (decode image) c .zone) es answer)
 
--- a call given by its fields
+-- of a call given by its fields
 pub record ReturnedWith (image : List ℕ) (c : Call) (answer : List ℕ) (number : ℕ) (image′ answer′ : List ℕ) : Type 0 where
-  pub is : number ≡ numberWith image c answer
+  pub is : number ≡ callNumber image c answer
   pub left : Left image c answer number image′ answer′
 
--- a call given by its record
+-- of a call given by its record
 pub record Returned (image call answer : List ℕ) (number : ℕ) (image′ answer′ : List ℕ) : Type 0 where
-  pub is : number ≡ numberFor image call answer
+  pub is : number ≡ recordNumber image call answer
   pub left : Left image (callIn call) answer number image′ answer′

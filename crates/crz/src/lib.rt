@@ -1,21 +1,43 @@
 // The entries that a C host calls.
-ghost use mathlib.Core.Path.{_≡_};
 ghost use mathlib.Core.Bool.{true};
+ghost use mathlib.Core.Path.{_≡_};
 ghost use Prim.Native.Nat.{_+_, _≤_, _<_};
 ghost use lib.ListN.{length, take};
 ghost use lib.Seq.{sets};
-ghost use Rattle.rules.specs.Effects.{effect};
-ghost use Rattle.rules.specs.Outcome.{numberOf};
+ghost use Rattle.units.specs.Ranges.{receiptCount};
 ghost use Rattle.image.specs.Image.{validImage, decode, encode};
+ghost use Rattle.image.specs.Layout.{imageLength};
 ghost use Rattle.image.specs.Table.{tableBytes};
-ghost use Rattle.crz.specs.Buffers.{callIn, callOrNone, entryBytes, headerOf, refusedAnswer, acceptedAnswer};
+ghost use Rattle.rules.specs.declared.Step.the-variants.{Accepted};
+ghost use Rattle.rules.specs.Effects.{effect};
+ghost use Rattle.rules.specs.Steps.{stepOn};
+ghost use Rattle.crz.specs.Buffers.{callLength, answerLength, answerHeader, entryLength, callIn, callOrNone, entryBytes, headerOf, refusedAnswer, acceptedAnswer};
 ghost use Rattle.crz.specs.Fresh.{freshEntry};
 ghost use Rattle.crz.specs.Returned.{Returned, ReturnedWith};
 use calls::Entries;
+use image::IMAGE_LENGTH;
+use rules::AtLot;
 use rules::Call;
 use rules::Entry;
+use rules::NUMBER_ACCEPTED;
+use rules::NUMBER_BAD_IMAGE;
+use rules::NUMBER_SHORT_ANSWER;
+use rules::Step;
+use units::Fen;
+use units::RECEIPTS;
 
-// ── Call record and answer ──────────────────────────────────────────────────────────────────────
+pub const CALL_LENGTH: usize = 24;
+
+pub const ANSWER_HEADER: usize = 16;
+
+pub const ENTRY_LENGTH: usize = 8;
+
+pub const ANSWER_LENGTH: usize = ANSWER_HEADER + RECEIPTS * ENTRY_LENGTH;
+
+// Where the entries of an answer start, as its header has it.
+const ENTRIES_START: u32 = ANSWER_HEADER as u32;
+
+// ── The call record ─────────────────────────────────────────────────────────────────────────────
 
 fn wide(x: u8) -> u32
     ensures { λ r. ⌜ (r ≡ x) × (r < 256) ⌝ }
@@ -24,7 +46,7 @@ fn wide(x: u8) -> u32
 }
 
 fn call_in(s: &[u8]) -> Call
-    requires { ⌜ length (now s) ≡ 24 ⌝ }
+    requires { ⌜ length (now s) ≡ callLength ⌝ }
     ensures { λ r. ⌜ r ≡ callIn (now (s .entry)) ⌝ }
 {
     let spare = (wire::get_u16(s, 5) as u32) + wide(s[7]) * 65536;
@@ -44,11 +66,11 @@ fn call_in(s: &[u8]) -> Call
     }
 }
 
-// A record of another length than 24 is no call: its kind is 0, which number 3 refuses.
+// A record of another length is no call: its kind is 0, which number 3 refuses.
 fn read_call(s: &[u8]) -> Call
     ensures { λ r. ⌜ r ≡ callOrNone (now (s .entry)) ⌝ }
 {
-    if s.len() != 24 {
+    if s.len() != CALL_LENGTH {
         return Call {
             kind: 0,
             account: 0,
@@ -64,116 +86,91 @@ fn read_call(s: &[u8]) -> Call
     call_in(s)
 }
 
+// ── The answer ──────────────────────────────────────────────────────────────────────────────────
+
 // A refusal: the number, and zeros behind it.
 fn refuse(answer: &mut [u8], n: u8) -> u32
-    requires { ⌜ 1040 ≤ length (now answer) ⌝ }
+    requires { ⌜ answerLength ≤ length (now answer) ⌝ }
     ensures { λ r. ⌜ (r ≡ n) × (now (answer .exit) ≡ refusedAnswer n (now (answer .entry))) ⌝ }
 {
-    wire::put_zeros(answer, 0, 1040);
+    wire::put_zeros(answer, 0, ANSWER_LENGTH);
     answer[0] = n;
     n as u32
 }
 
-fn entry_bytes(e: Entry) -> [u8; 8]
-    ensures { λ r. ⌜ r ≡ entryBytes e ⌝ }
-{
-    let n = e.number;
-    [
-        e.lot,
-        e.outcome,
-        e.from,
-        e.to,
-        (n % 256) as u8,
-        (n / 256 % 256) as u8,
-        (n / 256 / 256 % 256) as u8,
-        (n / 256 / 256 / 256 % 256) as u8,
-    ]
-}
-
 fn put_entry(answer: &mut [u8], at: usize, e: Entry)
-    requires { ⌜ at + 8 ≤ length (now answer) ⌝ }
+    requires { ⌜ at + entryLength ≤ length (now answer) ⌝ }
     ensures { λ _. ⌜ now (answer .exit) ≡ sets (now (answer .entry)) at (entryBytes e) ⌝ }
 {
-    let b = entry_bytes(e);
-    wire::put_run(answer, at, &b);
+    let single = [e.lot, e.outcome, e.from, e.to];
+    wire::put_run(answer, at, &single);
+    wire::put_u32(answer, at + 4, e.number);
 }
 
-// The first `count` entries, from byte 16 on.
-fn put_entries(answer: &mut [u8], entries: [Entry; 128], count: usize)
-    requires { ⌜ (1040 ≤ length (now answer)) × (count ≤ 128) ⌝ }
-    ensures { λ _. ⌜ now (answer .exit) ≡ sets (now (answer .entry)) 16 (tableBytes entryBytes (take count entries)) ⌝ }
+// The first `count` entries, behind the header.
+fn put_entries(answer: &mut [u8], entries: [Entry; RECEIPTS], count: usize)
+    requires { ⌜ (answerLength ≤ length (now answer)) × (count ≤ receiptCount) ⌝ }
+    ensures { λ _. ⌜ now (answer .exit) ≡ sets (now (answer .entry)) answerHeader (tableBytes entryBytes (take count entries)) ⌝ }
 {
     let mut i: usize = 0;
     while i < count {
-        put_entry(answer, 16 + i * 8, entries[i]);
+        put_entry(answer, ANSWER_HEADER + i * ENTRY_LENGTH, entries[i]);
         i += 1;
     }
 }
 
-fn answer_header(afternoon: bool, count: usize, total: u64) -> [u8; 16]
-    ensures { λ r. ⌜ r ≡ headerOf afternoon count total ⌝ }
+fn put_header(answer: &mut [u8], afternoon: bool, count: usize, total: Fen)
+    requires { ⌜ (answerLength ≤ length (now answer)) × (count ≤ receiptCount) ⌝ }
+    ensures { λ _. ⌜ now (answer .exit) ≡ sets (now (answer .entry)) 0 (headerOf afternoon count (total .0)) ⌝ }
 {
-    [
-        0,
-        image::phase(afternoon),
-        (count % 256) as u8,
-        (count / 256 % 256) as u8,
-        16,
-        0,
-        0,
-        0,
-        (total % 256) as u8,
-        (total / 256 % 256) as u8,
-        (total / 256 / 256 % 256) as u8,
-        (total / 256 / 256 / 256 % 256) as u8,
-        (total / 256 / 256 / 256 / 256 % 256) as u8,
-        (total / 256 / 256 / 256 / 256 / 256 % 256) as u8,
-        (total / 256 / 256 / 256 / 256 / 256 / 256 % 256) as u8,
-        (total / 256 / 256 / 256 / 256 / 256 / 256 / 256 % 256) as u8,
-    ]
+    let single = [NUMBER_ACCEPTED, image::phase(afternoon)];
+    wire::put_run(answer, 0, &single);
+    wire::put_u16(answer, 2, count as u16);
+    wire::put_u32(answer, 4, ENTRIES_START);
+    wire::put_u64(answer, 8, total.0);
 }
 
 // The answer of an accepted call, with the phase and the total of the image after it.
 fn fill_answer(answer: &mut [u8], image: &[u8], es: Entries)
-    requires { ⌜ (1040 ≤ length (now answer)) × (length (now image) ≡ 5696) × (es .count ≤ 128) ⌝ }
+    requires { ⌜ (answerLength ≤ length (now answer)) × (length (now image) ≡ imageLength) × (es .count ≤ receiptCount) ⌝ }
     ensures { λ _. ⌜ now (answer .exit) ≡ acceptedAnswer (decode (now (image .entry))) (take (es .count) (es .all)) (now (answer .entry)) ⌝ }
 {
     let count = es.count;
     let entries = es.all;
+    let afternoon = image::afternoon_in(image);
     let total = image::total_in(image);
-    let h = answer_header(image::afternoon_in(image), count, total.0);
-    wire::put_zeros(answer, 0, 1040);
-    wire::put_run(answer, 0, &h);
+    wire::put_zeros(answer, 0, ANSWER_LENGTH);
+    put_header(answer, afternoon, count, total);
     put_entries(answer, entries, count);
 }
 
 // ── A call ──────────────────────────────────────────────────────────────────────────────────────
 
 // An accepted call: what it does in the image, and the answer.
-fn carry_out(image: &mut [u8], answer: &mut [u8], c: Call) -> u32
-    requires { ⌜ (1040 ≤ length (now answer)) × (validImage (now image) ≡ true) × (numberOf (decode (now image)) c ≡ 0) ⌝ }
+fn carry_out(image: &mut [u8], answer: &mut [u8], c: Call, at: AtLot) -> u32
+    requires { ⌜ (answerLength ≤ length (now answer)) × (validImage (now image) ≡ true) × (stepOn (decode (now image)) c ≡ Accepted at) ⌝ }
     ensures { λ r. ⌜ (r ≡ 0) × (now (image .exit) ≡ encode (effect (decode (now (image .entry))) c .zone)) × (now (answer .exit) ≡ acceptedAnswer (effect (decode (now (image .entry))) c .zone) (effect (decode (now (image .entry))) c .entries) (now (answer .entry))) ⌝ }
 {
-    let es = calls::perform(image, c);
+    let es = calls::perform(image, c, at);
     fill_answer(answer, image, es);
-    0
+    NUMBER_ACCEPTED as u32
 }
 
 // A call given by its fields.
 pub fn make_call(image: &mut [u8], c: Call, answer: &mut [u8]) -> u32
     ensures { λ r. ⌜ ReturnedWith (now (image .entry)) c (now (answer .entry)) r (now (image .exit)) (now (answer .exit)) ⌝ }
 {
-    if answer.len() < 1040 {
-        return 1;
+    if answer.len() < ANSWER_LENGTH {
+        return NUMBER_SHORT_ANSWER as u32;
     }
-    if !image::image_ok(image) {
-        return refuse(answer, 2);
+    if !verdict::image_ok(image) {
+        return refuse(answer, NUMBER_BAD_IMAGE);
     }
-    let n = calls::number_of(image, c);
-    if n != 0 {
-        return refuse(answer, n);
+    let step = calls::step_of(image, c);
+    match step {
+        Step::Refused(n) => refuse(answer, n),
+        Step::Accepted(at) => carry_out(image, answer, c, at),
     }
-    carry_out(image, answer, c)
 }
 
 // Makes a call on an image. Returns 0 and writes image and answer, or a refusal's number: 1 writes nothing, any other fills the answer.
@@ -184,14 +181,14 @@ pub extern "C" fn crz_call(image: &mut [u8], call: &[u8], answer: &mut [u8]) -> 
     make_call(image, read_call(call), answer)
 }
 
-// Writes a fresh image and returns 0; a buffer of another length than 5,696 is left as it is, with 2.
+// Writes a fresh image and returns 0; a buffer of another length than an image's is left as it is, with 2.
 #[no_mangle]
 pub extern "C" fn crz_fresh(image: &mut [u8]) -> u32
     ensures { λ r. ⌜ (r, now (image .exit)) ≡ freshEntry (now (image .entry)) ⌝ }
 {
-    if image.len() != 5696 {
-        return 2;
+    if image.len() != IMAGE_LENGTH {
+        return NUMBER_BAD_IMAGE as u32;
     }
-    image::write_image(image, zone::fresh_zone());
-    0
+    fresh::write_image(image, fresh::fresh_zone());
+    NUMBER_ACCEPTED as u32
 }

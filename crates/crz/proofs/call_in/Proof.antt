@@ -63,9 +63,8 @@ shared-slice-read-t20 c = search needs
 returns : tie.Need-returns
 unfolding callIn leAt
 returns c =
-    let s = now (c .before .before .before .before .before .before .before .before .before .before .before .before .args .s) in
     call-eq
-    (omega (arith, leAt-add 2 1 s 5, c .before .before .before .before .before .before .before .before .before .before .get-u16 .ensures, c .before .before .before .before .before .before .before .before .wide .ensures .0))
+    (omega (arith, leAt-add 2 1 (now (c .before .before .before .before .before .before .before .before .before .before .before .before .args .s)) 5, c .before .before .before .before .before .before .before .before .before .before .get-u16 .ensures, c .before .before .before .before .before .before .before .before .wide .ensures .0))
     (c .before .before .before .before .before .before .before .get-u64 .ensures)
     (toZ-ofZ {w = w32} {z = c .before .before .before .before .before .before .get-i32 .result} (record { sfits = c .before .before .before .before .before .before .get-i32 .ok }) ∙ c .before .before .before .before .before .before .get-i32 .ensures)
     (c .before .before .before .before .before .get-u32 .ensures)

@@ -1,4 +1,4 @@
--- The loop's invariant: the entries passed stand from byte 16 on.
+-- The loop's invariant: the entries passed stand behind the header.
 use denote.Ref.{now}
 use mathlib.Core.List.{List}
 use mathlib.Core.Path.{_≡_, refl, ap, _∙_}
@@ -7,17 +7,18 @@ use native.Mathlib.Omega.{arith}
 use borrow.Author.Needs.{needs}
 use lib.ListN.{length, take, getD}
 use lib.Seq.{sets, length-sets}
+use Rattle.units.specs.Ranges.{receiptCount}
 use Rattle.image.specs.Table.{tableBytes}
 use Rattle.image.specs.Laws.Table.{put-more}
 use Rattle.rules.specs.declared.Entry.{Entry}
-use Rattle.crz.specs.Buffers.{entryBytes}
+use Rattle.crz.specs.Buffers.{answerHeader, entryLength, entryBytes}
 use Rattle.crz.specs.Laws.Answer.{entry-wide}
 use Rattle.crz.proofs.put_entries.Statement.{statement}
 use Rattle.crz.proofs.put_entries.Tie as tie
 
 abbrev Inv-loop : tie.InvT-loop
 Inv-loop answer₀ count entries i₀ answer i =
-    (i ≤ count) × (length entries ≡ 128) × (answer ≡ sets answer₀ 16 (tableBytes entryBytes (take i entries)))
+    (i ≤ count) × (length entries ≡ receiptCount) × (answer ≡ sets answer₀ answerHeader (tableBytes entryBytes (take i entries)))
 
 abbrev μ-loop : tie.MeasureT-loop
 μ-loop answer₀ count entries i₀ answer i = count - i
@@ -56,8 +57,8 @@ loop-again c =
       omega arith,
       l .inv .1,
       c .before .before .put-entry .ensures
-          ∙ ap (λ (s : List ℕ). sets s (16 + l .i * 8) (entryBytes (getD (a .t2) (l .i) none))) (l .inv .2)
-          ∙ put-more entryBytes 8 entry-wide (now (a .answer)) 16 (a .t2) (l .i) none h,
+          ∙ ap (λ (s : List ℕ). sets s (answerHeader + l .i * entryLength) (entryBytes (getD (a .t2) (l .i) none))) (l .inv .2)
+          ∙ put-more entryBytes entryLength entry-wide (now (a .answer)) answerHeader (a .t2) (l .i) none h,
     )
 
 same-length : tie.Need-same-length Inv-loop μ-loop
