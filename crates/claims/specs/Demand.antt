@@ -1,41 +1,77 @@
--- Demand 3 on values: what holds after every list of calls on a fresh zone, refused ones among them, by the accepted calls and their
--- answers alone. The proof is in Laws/; nothing of it is needed to read this page.
+-- Demand 3 (01 History 8, 9): what holds after every list of calls on a fresh image, refused ones among them, with buffers of any length
+-- and content. The history is fed from the call records and the answers as they were on return; nothing comes from the image. Free, frozen
+-- and owner are those of the image after the list. The proof is in Laws/; nothing of it is needed to read this page.
 -- Assumes nothing.
-use mathlib.Core.List.{List, [], _∷_}
+use mathlib.Core.Bool.{true}
+use mathlib.Core.List.{List, [], _∷_, map}
 use mathlib.Core.Path.{_≡_}
-use Prim.Native.Nat.{ℕ, _+_, _≤_}
+use Prim.Native.Nat.{ℕ, zero, suc, _+_, _≤_}
+use Rattle.units.specs.Ranges.{accountCount, receiptCount}
 use Rattle.zone.specs.declared.Zone.{Zone}
 use Rattle.zone.specs.Valid.{freshZone}
 use Rattle.rules.specs.declared.Call.{Call}
-use Rattle.rules.specs.declared.Entry.{Entry}
-use Rattle.rules.specs.Events.{Done}
-use Rattle.rules.specs.Order.{Listed}
-use Rattle.rules.specs.Outcome.{refused, accepted, outcome}
 use Rattle.rules.specs.View.{freeAt, frozenAt, receiptAt}
-use Rattle.claims.specs.History.{Answer, refusedWith, entriesOf, history, heldOver, belongs, EachStrikeFair}
+use Rattle.image.specs.Image.{validImage, decode, encode}
+use Rattle.crz.specs.Buffers.{callIn, entriesIn}
+use Rattle.crz.specs.Returned.{Returned}
+use Rattle.claims.specs.History.{Reply, refusedWith, acceptedWith, history, heldOver, Exact, belongs, EachStrikeFair}
 
--- ── A list of calls, the newest first, and the zone after it ───────────────────────────────────
+-- ── A list of calls, the newest first, and the image after it ──────────────────────────────────
 
-pub data Made : List (Call × Answer) → Zone → Type 0 where
-  start : Made [] freshZone
-  turnedDown : {list : List (Call × Answer)} {z : Zone} → Made list z → (c : Call) (n : ℕ) → outcome z c ≡ refused n
-      → Made ((c, refusedWith n) ∷ list) z
-  carriedOut : {list : List (Call × Answer)} {z : Zone} → Made list z → (c : Call) (d : Done) (es : List Entry) → outcome z c ≡ accepted d
-      → Listed c (d .entries) es → Made ((c, entriesOf es) ∷ list) (d .zone)
+-- one call of the host's: the record handed over, the number returned, the answer buffer on return
+pub record Exchange : Type 0 where
+  pub call : List ℕ
+  pub number : ℕ
+  pub answer : List ℕ
+
+-- Calls from an image on, each made on the image that the one before it left. `Returned` is what the contract of `crz_call` promises, of
+-- every buffer.
+pub data MadeFrom (start : List ℕ) : List Exchange → List ℕ → Type 0 where
+  noCalls : MadeFrom start [] start
+  next : {list : List Exchange} {image : List ℕ} → MadeFrom start list image → (call answer : List ℕ) (number : ℕ) (image′ answer′ : List ℕ)
+      → Returned image call answer number image′ answer′
+      → MadeFrom start (record { call = call; number = number; answer = answer′ } ∷ list) image′
+
+-- ── What the history table is fed ──────────────────────────────────────────────────────────────
+
+abbrev pub replyOf : ℕ → List ℕ → Reply
+replyOf zero answer = acceptedWith (entriesIn answer)
+replyOf (suc n) answer = refusedWith (suc n)
+
+abbrev pub fed : Exchange → Call × Reply
+fed x = (callIn (x .call), replyOf (x .number) (x .answer))
 
 -- ── The four sentences ─────────────────────────────────────────────────────────────────────────
 
-pub record Holds (list : List (Call × Answer)) (z : Zone) : Type 0 where
+pub record Holds (list : List (Call × Reply)) (z : Zone) : Type 0 where
   -- the books balance for every account: what it has, took out and passed on is what it paid in and was passed
-  pub books : (x : ℕ) → 1 ≤ x → x ≤ 96 →
+  pub books : (x : ℕ) → 1 ≤ x → x ≤ accountCount →
       freeAt (z .accounts) x .0 + frozenAt (z .accounts) x .0 + history list .takeOuts x + history list .sent x ≡ history list .payIns x + history list .got x
   -- frozen money is what the history table holds
-  pub frozen : (x : ℕ) → 1 ≤ x → x ≤ 96 → frozenAt (z .accounts) x .0 ≡ heldOver x 128 1 (history list)
+  pub frozen : (x : ℕ) → 1 ≤ x → x ≤ accountCount → frozenAt (z .accounts) x .0 ≡ heldOver x receiptCount 1 (history list)
+  -- and the table holds it exactly: of no lot was more paid than settled
+  pub exact : (k : ℕ) → 1 ≤ k → k ≤ receiptCount → Exact (history list .lots k)
   -- every receipt belongs to its latest settled buyer or its registrant
-  pub owners : (k : ℕ) → 1 ≤ k → k ≤ 128 → receiptAt (z .receipts) k .owner ≡ belongs (history list .lots k)
+  pub owners : (k : ℕ) → 1 ≤ k → k ≤ receiptCount → receiptAt (z .receipts) k .owner ≡ belongs (history list .lots k)
   -- every struck buyer made that call or placed the standing bid that is the lot's last entry before it
   pub strikes : EachStrikeFair list
 
--- Demand 3: for every list of calls.
+-- ── The claims ─────────────────────────────────────────────────────────────────────────────────
+
+-- an accepted call leaves a valid image; any other leaves the image as it was
+pub record KeepsImage (image : List ℕ) (number : ℕ) (image′ : List ℕ) : Type 0 where
+  pub accepted : number ≡ 0 → validImage image′ ≡ true
+  pub refused : (n : ℕ) → number ≡ suc n → image′ ≡ image
+
+abbrev pub ImageKept : Type 0
+ImageKept =
+    (image call answer : List ℕ) (number : ℕ) (image′ answer′ : List ℕ) → Returned image call answer number image′ answer′
+    → KeepsImage image number image′
+
+-- a valid image stays one over every list of calls
+abbrev pub StaysValid : Type 0
+StaysValid = (start : List ℕ) (list : List Exchange) (image : List ℕ) → validImage start ≡ true → MadeFrom start list image → validImage image ≡ true
+
+-- demand 3: the four sentences, for every list of calls from a fresh image on
 abbrev pub Demand3 : Type 0
-Demand3 = (list : List (Call × Answer)) (z : Zone) → Made list z → Holds list z
+Demand3 = (list : List Exchange) (image : List ℕ) → MadeFrom (encode freshZone) list image → Holds (map fed list) (decode image)

@@ -1,4 +1,4 @@
--- Document 01's "Bench examples", all fourteen together as one fact of the rules, by computing on whole zones from a fresh one.
+-- The paper's fourteen examples (01 Examples 1 to 14), together as one fact of the rules, by computing on whole zones from a fresh one.
 -- Assumes nothing.
 use mathlib.Core.List.{List, [], _∷_, _++_}
 use mathlib.Core.Path.{_≡_, refl}
@@ -9,18 +9,20 @@ use Rattle.zone.specs.Record.{recordOf}
 use Rattle.zone.specs.Valid.{freshZone}
 use Rattle.rules.specs.declared.Call.{Call}
 use Rattle.rules.specs.Tables.{nth}
-use Rattle.rules.specs.View.{freeAt, receiptAt}
-use Rattle.claims.specs.Words.{payIn, registers, lists, bids, bidsMarket, quote, lodges, morningClose, firstPaid, invoices, confirms, dayClose, Said, turnedDown, silent, says, made, replay, zoneAfter}
+use Rattle.rules.specs.View.{freeAt, receiptAt, recordAt}
+use Rattle.claims.specs.History.{Reply, refusedWith}
+use Rattle.claims.specs.Replay.{replyTo, replay, zoneAfter}
+use Rattle.claims.specs.Words.{payIn, registers, lists, bids, bidsMarket, quote, lodges, morningClose, firstPaid, invoices, confirms, dayClose, noEntries, oneEntry}
 
 -- Ginner 1 registers receipt 7 and lists it at contract 1; mill 2 has paid in.
 abbrev market : ℕ → ℤ → ℕ → ℕ → List Call
 market weight basis days paidIn = payIn 2 paidIn ∷ registers 1 7 weight ∷ lists 1 7 1 days basis ∷ []
 
-abbrev opened : List Said
-opened = silent ∷ says 7 1 1 0 0 ∷ says 7 2 1 0 0 ∷ []
+abbrev opened : List Reply
+opened = noEntries ∷ oneEntry 7 1 1 0 0 ∷ oneEntry 7 2 1 0 0 ∷ []
 
 -- the answers to the calls that follow such an opening
-abbrev run : ℕ → ℤ → ℕ → List Call → List Said
+abbrev run : ℕ → ℤ → ℕ → List Call → List Reply
 run weight basis paidIn calls = replay (market weight basis 0 paidIn ++ calls) freshZone
 
 -- whole days with nothing but their closes
@@ -29,51 +31,52 @@ days zero calls = calls
 days (suc n) calls = morningClose ∷ dayClose ∷ days n calls
 
 abbrev dueAfter : List Call → ℕ
-dueAfter calls = recordOf (receiptAt (zoneAfter calls freshZone .receipts) 7) .due
+dueAfter calls = recordAt (zoneAfter calls freshZone) 7 .due
 
 abbrev freeAfter : List Call → ℕ
 freeAfter calls = freeAt (zoneAfter calls freshZone .accounts) 2 .0
 
 pub record FourteenExamples : Type 0 where
-  -- (1), (2), (3), (6)
+  -- 1, 2, 3 and 6
   pub money : MoneyExamples
-  -- "(4) There invoices 33, 33, 34 pay 6, 6, 8."
+  -- 4, the parts of three invoices: 6, 6 and 8
   pub four : run 1000 (negsuc 3) 5000000
       (bids 2 7 5 ∷ quote 1 5 ∷ lodges 1 7 ∷ morningClose ∷ firstPaid 1 7 ∷ invoices 1 7 33 ∷ confirms 2 7 ∷ invoices 1 7 33 ∷ confirms 2 7
       ∷ invoices 1 7 34 ∷ confirms 2 7 ∷ [])
-      ≡ opened ++ (says 7 4 2 1 5 ∷ says 7 6 2 1 5 ∷ says 7 7 1 2 0 ∷ says 7 8 2 1 100 ∷ says 7 9 2 1 80 ∷ says 7 10 1 2 33 ∷ says 7 11 2 1 6
-      ∷ says 7 10 1 2 33 ∷ says 7 11 2 1 6 ∷ says 7 10 1 2 34 ∷ says 7 11 2 1 8 ∷ [])
-  -- "(5) Price 5, basis -5: 10."
-  pub five : run 1000 (negsuc 4) 5000000 (bids 2 7 5 ∷ []) ≡ opened ++ (turnedDown 10 ∷ [])
-  -- "(7) Bid 15,003: 4."
-  pub seven : run 41237 (pos 300) 5000000 (bids 2 7 15003 ∷ []) ≡ opened ++ (turnedDown 4 ∷ [])
-  -- "(8) No ask, standing 15,000, bid 15,000: 8; 15,005 stands."
+      ≡ opened ++ (oneEntry 7 4 2 1 5 ∷ oneEntry 7 6 2 1 5 ∷ oneEntry 7 7 1 2 0 ∷ oneEntry 7 8 2 1 100 ∷ oneEntry 7 9 2 1 80 ∷ oneEntry 7 10 1 2 33 ∷ oneEntry 7 11 2 1 6
+      ∷ oneEntry 7 10 1 2 33 ∷ oneEntry 7 11 2 1 6 ∷ oneEntry 7 10 1 2 34 ∷ oneEntry 7 11 2 1 8 ∷ [])
+  -- 5, nothing to pay
+  pub five : run 1000 (negsuc 4) 5000000 (bids 2 7 5 ∷ []) ≡ opened ++ (refusedWith 10 ∷ [])
+  -- 7, a price between the steps
+  pub seven : run 41237 (pos 300) 5000000 (bids 2 7 15003 ∷ []) ≡ opened ++ (refusedWith 4 ∷ [])
+  -- 8, a bid that is not above the standing one, and one that is
   pub eight : run 41237 (pos 300) 5000000 (bids 2 7 15000 ∷ bids 2 7 15000 ∷ bids 2 7 15005 ∷ [])
-      ≡ opened ++ (says 7 4 2 1 15000 ∷ turnedDown 8 ∷ says 7 4 2 1 15005 ∷ [])
-  -- "(9) Standing 15,000: quote 15,005 leaves it, quote 15,000 strikes it."
+      ≡ opened ++ (oneEntry 7 4 2 1 15000 ∷ refusedWith 8 ∷ oneEntry 7 4 2 1 15005 ∷ [])
+  -- 9, a quote above the standing bid, and one at it
   pub nine : run 41237 (pos 300) 5000000 (bids 2 7 15000 ∷ quote 1 15005 ∷ quote 1 15000 ∷ [])
-      ≡ opened ++ (says 7 4 2 1 15000 ∷ silent ∷ says 7 6 2 1 15000 ∷ [])
-  -- "(10) Ask 14,990: limit 15,000 strikes at 15,000, market at 14,990."
-  pub ten : run 41237 (pos 300) 5000000 (quote 1 14990 ∷ bids 2 7 15000 ∷ []) ≡ opened ++ (silent ∷ says 7 6 2 1 15000 ∷ [])
-  pub ten-market : run 41237 (pos 300) 5000000 (quote 1 14990 ∷ bidsMarket 2 7 ∷ []) ≡ opened ++ (silent ∷ says 7 6 2 1 14990 ∷ [])
-  -- "(11) Own raise with free 0: accepted."
+      ≡ opened ++ (oneEntry 7 4 2 1 15000 ∷ noEntries ∷ oneEntry 7 6 2 1 15000 ∷ [])
+  -- 10, a limit bid and a market bid at an ask below
+  pub ten : run 41237 (pos 300) 5000000 (quote 1 14990 ∷ bids 2 7 15000 ∷ []) ≡ opened ++ (noEntries ∷ oneEntry 7 6 2 1 15000 ∷ [])
+  pub ten-market : run 41237 (pos 300) 5000000 (quote 1 14990 ∷ bidsMarket 2 7 ∷ []) ≡ opened ++ (noEntries ∷ oneEntry 7 6 2 1 14990 ∷ [])
+  -- 11, a raise of one's own bid with nothing free
   pub eleven-free : freeAfter (market 41237 (pos 300) 0 5000000 ++ (bids 2 7 15000 ∷ [])) ≡ 0
-  pub eleven : run 41237 (pos 300) 5000000 (bids 2 7 15000 ∷ bids 2 7 15005 ∷ []) ≡ opened ++ (says 7 4 2 1 15000 ∷ says 7 4 2 1 15005 ∷ [])
-  -- "(12) D 0 on day 5: due 5, afternoon 6."
+  pub eleven : run 41237 (pos 300) 5000000 (bids 2 7 15000 ∷ bids 2 7 15005 ∷ []) ≡ opened ++ (oneEntry 7 4 2 1 15000 ∷ oneEntry 7 4 2 1 15005 ∷ [])
+  -- 12, D 0 on day 5, in the morning and in the afternoon
   pub twelve : dueAfter (days 4 (market 41237 (pos 300) 0 5000000 ++ (quote 1 15000 ∷ bidsMarket 2 7 ∷ []))) ≡ 5
   pub twelve-afternoon : dueAfter (days 4 (market 41237 (pos 300) 0 5000000 ++ (quote 1 15000 ∷ morningClose ∷ bidsMarket 2 7 ∷ []))) ≡ 6
-  -- "(13) Case 1, free 58,092,610 settles, 58,092,609 defaults."
+  -- 13, the money to settle, and one fen less
   pub thirteen-free : freeAfter (market 41237 (pos 300) 0 63092610 ++ (bids 2 7 15000 ∷ quote 1 15000 ∷ lodges 1 7 ∷ [])) ≡ 58092610
   pub thirteen : run 41237 (pos 300) 63092610 (bids 2 7 15000 ∷ quote 1 15000 ∷ lodges 1 7 ∷ morningClose ∷ [])
-      ≡ opened ++ (says 7 4 2 1 15000 ∷ says 7 6 2 1 15000 ∷ says 7 7 1 2 0 ∷ says 7 8 2 1 63092610 ∷ [])
+      ≡ opened ++ (oneEntry 7 4 2 1 15000 ∷ oneEntry 7 6 2 1 15000 ∷ oneEntry 7 7 1 2 0 ∷ oneEntry 7 8 2 1 63092610 ∷ [])
+  pub thirteen-less-free : freeAfter (market 41237 (pos 300) 0 63092609 ++ (bids 2 7 15000 ∷ quote 1 15000 ∷ lodges 1 7 ∷ [])) ≡ 58092609
   pub thirteen-less : run 41237 (pos 300) 63092609 (bids 2 7 15000 ∷ quote 1 15000 ∷ lodges 1 7 ∷ morningClose ∷ [])
-      ≡ opened ++ (says 7 4 2 1 15000 ∷ says 7 6 2 1 15000 ∷ says 7 7 1 2 0 ∷ says 7 12 2 1 5000000 ∷ [])
-  -- "(14) Penalty, free 1,200,000: passes 1,200,000."
+      ≡ opened ++ (oneEntry 7 4 2 1 15000 ∷ oneEntry 7 6 2 1 15000 ∷ oneEntry 7 7 1 2 0 ∷ oneEntry 7 12 2 1 5000000 ∷ [])
+  -- 14, a penalty that the seller cannot pay in full
   pub fourteen : run 41237 (pos 300) 63092610 (payIn 1 1200000 ∷ bids 2 7 15000 ∷ quote 1 15000 ∷ morningClose ∷ dayClose ∷ morningClose ∷ [])
-      ≡ opened ++ (silent ∷ says 7 4 2 1 15000 ∷ says 7 6 2 1 15000 ∷ says 7 13 1 2 0 ∷ silent ∷ says 7 15 1 2 1200000 ∷ [])
+      ≡ opened ++ (noEntries ∷ oneEntry 7 4 2 1 15000 ∷ oneEntry 7 6 2 1 15000 ∷ oneEntry 7 13 1 2 0 ∷ noEntries ∷ oneEntry 7 15 1 2 1200000 ∷ [])
 
 pub fourteen-examples : FourteenExamples
-unfolding replay zoneAfter made freshZone recordOf receiptAt freeAt nth
+unfolding replay zoneAfter replyTo freshZone recordOf receiptAt freeAt nth
 fourteen-examples =
     record {
       money = money-examples;
@@ -90,6 +93,7 @@ fourteen-examples =
       twelve-afternoon = refl;
       thirteen-free = refl;
       thirteen = refl;
+      thirteen-less-free = refl;
       thirteen-less = refl;
       fourteen = refl;
     }

@@ -1,12 +1,13 @@
--- The history table (document 01, "The history table", its own term): fed with call records and answer entries alone.
--- Nothing here comes from the rules or from the zone.
+-- The history table (01 History): fed with call records and the entries of answers alone. Nothing here comes from the rules or from the
+-- zone.
 -- Assumes nothing.
 use mathlib.Core.Bool.{Bool, true, false, cond}
 use mathlib.Core.List.{List, [], _∷_}
 use mathlib.Core.Logic.{_≢_}
 use mathlib.Core.Path.{_≡_}
-use Prim.Native.Nat.{ℕ, zero, suc, _+_, _-_}
+use Prim.Native.Nat.{ℕ, zero, suc, _+_, _-_, _≤_}
 use lib.Dec.{eqb, T}
+use Rattle.units.specs.Payments.{deposit}
 use Rattle.rules.specs.declared.Call.{Call}
 use Rattle.rules.specs.declared.Entry.{Entry}
 
@@ -15,13 +16,13 @@ abbrev pub oneOf : ℕ → List ℕ → Bool
 oneOf n [] = false
 oneOf n (k ∷ ks) = cond (eqb n k) true (oneOf n ks)
 
--- n where x is the account a, else 0
-unfoldable pub of : ℕ → ℕ → ℕ → ℕ
-of x a n = cond (eqb x a) n 0
+-- what account x has of n fen that are account a's
+unfoldable pub fenOf : ℕ → ℕ → ℕ → ℕ
+fenOf x a n = cond (eqb x a) n 0
 
 -- ── The table ──────────────────────────────────────────────────────────────────────────────────
 
--- What the table has of one lot; each field is 0 until an entry gives it.
+-- what the table has of one lot; each field is 0 until an entry gives it
 pub record Past : Type 0 where
   pub last : ℕ  -- the outcome of the last entry
   pub from : ℕ  -- its from
@@ -40,7 +41,7 @@ pub record Table : Type 0 where
   pub sent : ℕ → ℕ
   pub got : ℕ → ℕ
 
--- "It stands beside the zone, empty at the start"
+-- at the start (01 History 1)
 abbrev pub noPast : Past
 noPast =
     record { last = 0; from = 0; kind = 0; account = 0; bidder = 0; registrant = 0; buyer = 0; full = 0; since = 0 }
@@ -48,8 +49,7 @@ noPast =
 abbrev pub empty : Table
 empty = record { lots = λ k. noPast; payIns = λ x. 0; takeOuts = λ x. 0; sent = λ x. 0; got = λ x. 0 }
 
--- "Then entries go in one by one, each as its lot's last."
--- "Outcome 1 names the receipt's registrant, 8 its settled buyer, both in from."
+-- a lot with one entry more, which is now its last (01 History 4, 6)
 abbrev pub remember : Call → Entry → Past → Past
 remember c e p =
     let o : ℕ = e .outcome in
@@ -65,7 +65,7 @@ remember c e p =
       since = cond (eqb o 8) 0 (p .since + cond (oneOf o (9 ∷ 11 ∷ [])) (e .number) 0);
     }
 
--- "Outcomes 9, 11, 12, 15 are transfers of their number, from the account in from to the one in to."
+-- the fen that an entry passes (01 History 5)
 unfoldable pub transferred : Entry → ℕ
 transferred e = cond (oneOf (e .outcome) (9 ∷ 11 ∷ 12 ∷ 15 ∷ [])) (e .number) 0
 
@@ -75,69 +75,79 @@ enter c e h =
       lots = λ k. cond (eqb k (e .lot)) (remember c e (h .lots k)) (h .lots k);
       payIns = h .payIns;
       takeOuts = h .takeOuts;
-      sent = λ x. h .sent x + of x (e .from) (transferred e);
-      got = λ x. h .got x + of x (e .to) (transferred e);
+      sent = λ x. h .sent x + fenOf x (e .from) (transferred e);
+      got = λ x. h .got x + fenOf x (e .to) (transferred e);
     }
 
 unfoldable pub enterAll : Call → List Entry → Table → Table
 enterAll c [] h = h
 enterAll c (e ∷ es) h = enterAll c es (enter c e h)
 
--- "An accepted kind 1 adds its amount to the account's pay-ins, kind 2 to its take-outs."
+-- pay-ins and take-outs (01 History 3)
 unfoldable pub cash : Call → Table → Table
 cash c h =
     record {
       lots = h .lots;
-      payIns = λ x. h .payIns x + of x (c .account) (cond (eqb (c .kind) 1) (c .amount) 0);
-      takeOuts = λ x. h .takeOuts x + of x (c .account) (cond (eqb (c .kind) 2) (c .amount) 0);
+      payIns = λ x. h .payIns x + fenOf x (c .account) (cond (eqb (c .kind) 1) (c .amount) 0);
+      takeOuts = λ x. h .takeOuts x + fenOf x (c .account) (cond (eqb (c .kind) 2) (c .amount) 0);
       sent = h .sent;
       got = h .got;
     }
 
 -- ── A list of calls, the newest first ──────────────────────────────────────────────────────────
 
--- what a call returned: another number than 0, or 0 with the answer's entries
-pub data Answer : Type 0 where
-  refusedWith : ℕ → Answer
-  entriesOf : List Entry → Answer
+-- what a host has of a call: another number than 0, or the entries of its answer
+pub data Reply : Type 0 where
+  refusedWith : ℕ → Reply
+  acceptedWith : List Entry → Reply
 
-abbrev pub feed : Call → Answer → Table → Table
+-- a refused call changes nothing (01 History 2)
+abbrev pub feed : Call → Reply → Table → Table
 feed c (refusedWith n) h = h
-feed c (entriesOf es) h = enterAll c es (cash c h)
+feed c (acceptedWith es) h = enterAll c es (cash c h)
 
--- "takes the list's accepted calls (returned 0) in order .. A refused call leaves it as it is."
-unfoldable pub history : List (Call × Answer) → Table
+unfoldable pub history : List (Call × Reply) → Table
 history [] = empty
 history (a ∷ list) = feed (a .0) (a .1) (history list)
 
--- ── What the table holds ───────────────────────────────────────────────────────────────────────
+-- ── What the table holds (01 History 7) ────────────────────────────────────────────────────────
 
--- "Per lot, by its last entry: 4, 6, 7 hold 5,000,000 from the buyer of its latest 4 or 6; 8 to 11 hold the latest 8's number, less
--- 9s and 11s since, from its buyer; others, or no entry, hold 0." What is held from account x. A first payment and part payments
--- never pass the full one, so the difference never stops at 0.
+-- the lot's last entry is the settlement or a step after it that is not the end
+abbrev pub isPaying : Past → Bool
+isPaying p = oneOf (p .last) (8 ∷ 9 ∷ 10 ∷ 11 ∷ [])
+
+-- What is held from account x: the deposit while a bid stands or a trade waits; from the settlement on its number, less what was paid
+-- since. Nothing is taken that is not there: `Exact`, which demand 3 has of every lot.
 abbrev pub heldIn : ℕ → Past → ℕ
 heldIn x p =
-    cond (oneOf (p .last) (4 ∷ 6 ∷ 7 ∷ [])) (of x (p .bidder) 5000000)
-    (cond (oneOf (p .last) (8 ∷ 9 ∷ 10 ∷ 11 ∷ [])) (of x (p .buyer) (p .full - p .since))
+    cond (oneOf (p .last) (4 ∷ 6 ∷ 7 ∷ [])) (fenOf x (p .bidder) (deposit .0))
+    (cond (isPaying p) (fenOf x (p .buyer) (p .full - p .since))
     0)
 
--- and over `more` lots from number n on
+-- no more was paid since the latest settlement than its number, and where `heldIn` takes the one from the other, nothing is lost
+pub record Exact (p : Past) : Type 0 where
+  pub paid : p .since ≤ p .full
+  pub left : T (isPaying p) → p .full - p .since + p .since ≡ p .full
+
+-- over `more` lots from number n on
 unfoldable pub heldOver : ℕ → ℕ → ℕ → Table → ℕ
 heldOver x zero n h = 0
 heldOver x (suc more) n h = heldIn x (h .lots n) + heldOver x more (suc n) h
 
--- the receipt's latest settled buyer, else its registrant; "without an outcome 1 the owner is 0"
+-- ── Whom a receipt belongs to (01 History 10) ──────────────────────────────────────────────────
+
+-- nobody before a registration, else its latest settled buyer, else its registrant
 abbrev pub belongs : Past → ℕ
-belongs p = cond (eqb (p .buyer) 0) (p .registrant) (p .buyer)
+belongs p = cond (eqb (p .registrant) 0) 0 (cond (eqb (p .buyer) 0) (p .registrant) (p .buyer))
 
--- ── Strikes ────────────────────────────────────────────────────────────────────────────────────
+-- ── Strikes (01 History 11) ────────────────────────────────────────────────────────────────────
 
--- "An outcome 6 strikes the buyer in its from: that account made this call, of kind 6 or 7,"
+-- the struck buyer made this call, a limit or market bid
 pub record OwnCall (c : Call) (e : Entry) : Type 0 where
   pub by : c .account ≡ e .from
   pub kind : T (oneOf (c .kind) (6 ∷ 7 ∷ []))
 
--- "or this call is a quote and the lot's last entry before it is a 4 from that account, answering its own kind 6."
+-- this call is a quote, and the lot's last entry before it is the buyer's own standing bid
 pub record OwnBid (c : Call) (e : Entry) (p : Past) : Type 0 where
   pub quote : c .kind ≡ 9
   pub stands : p .last ≡ 4
@@ -155,11 +165,11 @@ unfoldable pub EachFair : Call → List Entry → Table → Type 0
 EachFair c [] h = Unit {0}
 EachFair c (e ∷ es) h = Fair c e (h .lots (e .lot)) × EachFair c es (enter c e h)
 
-abbrev pub FairAnswer : Call → Answer → Table → Type 0
-FairAnswer c (refusedWith n) h = Unit {0}
-FairAnswer c (entriesOf es) h = EachFair c es (cash c h)
+abbrev pub FairReply : Call → Reply → Table → Type 0
+FairReply c (refusedWith n) h = Unit {0}
+FairReply c (acceptedWith es) h = EachFair c es (cash c h)
 
--- each answer of a list
-unfoldable pub EachStrikeFair : List (Call × Answer) → Type 0
+-- each call of a list
+unfoldable pub EachStrikeFair : List (Call × Reply) → Type 0
 EachStrikeFair [] = Unit {0}
-EachStrikeFair (a ∷ list) = FairAnswer (a .0) (a .1) (history list) × EachStrikeFair list
+EachStrikeFair (a ∷ list) = FairReply (a .0) (a .1) (history list) × EachStrikeFair list

@@ -1,28 +1,29 @@
--- What every accepted call keeps: a valid zone stays valid, the entries fit an answer, and no lot is listed twice.
--- The proofs are in Laws/.
+-- What every accepted call keeps: a valid zone stays valid, the entries fit an answer, and no lot is listed twice. The proofs are in
+-- Laws/.
 -- Assumes nothing.
 use mathlib.Core.Bool.{true}
 use mathlib.Core.List.{List, [], _∷_}
 use mathlib.Core.Path.{_≡_}
 use Prim.Native.Nat.{ℕ, suc, _≤_, _<_, _^_}
 use lib.ListN.{length}
+use Rattle.units.specs.Ranges.{accountCount, receiptCount}
 use Rattle.zone.specs.declared.Zone.{Zone}
-use Rattle.zone.specs.Valid.{validZone}
+use Rattle.zone.specs.Valid.{Sized, validZone}
 use Rattle.rules.specs.declared.Call.{Call}
 use Rattle.rules.specs.declared.Entry.{Entry}
+use Rattle.rules.specs.Effects.{effect}
 use Rattle.rules.specs.Events.{Done}
-use Rattle.rules.specs.Outcome.{accepted, outcome}
-use Rattle.rules.specs.Sized.{Sized}
+use Rattle.rules.specs.Steps.{numberOn}
 
--- an entry stands in 8 bytes: "Entry: lot, outcome, from, to, u32."
+-- the fields of an entry fit their bytes (01 Answers 3)
 pub record EntryFits (e : Entry) : Type 0 where
-  pub lot : (1 ≤ e .lot) × (e .lot ≤ 128)
+  pub lot : (1 ≤ e .lot) × (e .lot ≤ receiptCount)
   pub outcome : (1 ≤ e .outcome) × (e .outcome ≤ 15)
-  pub from : (1 ≤ e .from) × (e .from ≤ 96)
-  pub to : e .to ≤ 96
+  pub from : (1 ≤ e .from) × (e .from ≤ accountCount)
+  pub to : e .to ≤ accountCount
   pub number : e .number < 2 ^ 32
 
--- "Closes list lots ascending": the entries are of lots from n on, each above the one before it
+-- the entries are of lots from n on, each above the one before it (01 Answers 4)
 abbrev pub Ascending : ℕ → List Entry → Type 0
 Ascending n [] = Unit {0}
 Ascending n (e ∷ es) = (n ≤ e .lot) × EntryFits e × Ascending (suc (e .lot)) es
@@ -31,7 +32,7 @@ pub record Kept (d : Done) : Type 0 where
   pub sized : Sized (d .zone)
   pub valid : validZone (d .zone) ≡ true
   pub ascending : Ascending 1 (d .entries)
-  pub count : length (d .entries) ≤ 128
+  pub count : length (d .entries) ≤ receiptCount
 
 abbrev pub KeepsValid : Type 0
-KeepsValid = (z : Zone) (c : Call) (d : Done) → Sized z → validZone z ≡ true → outcome z c ≡ accepted d → Kept d
+KeepsValid = (z : Zone) (c : Call) → Sized z → validZone z ≡ true → numberOn z c ≡ 0 → Kept (effect z c)

@@ -1,7 +1,8 @@
-pub mod Kept
-pub mod Order
 pub mod Knows
 pub mod Told
 pub mod InStep
+pub mod Order
+pub mod Kept
+pub mod Values
 pub mod Demand
-pub mod OnBytes
+pub mod RoundTrips

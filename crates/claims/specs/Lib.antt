@@ -1,8 +1,9 @@
 pub mod History
 pub mod Demand
 pub mod Kept
-pub mod OnBytes
+pub mod RoundTrips
 pub mod Words
+pub mod Replay
 pub mod Examples
 pub mod Traps
 pub mod Laws

@@ -1,20 +1,10 @@
--- Calls and answers in words, and lists of calls replayed by computing: what the examples are written with.
+-- Calls and replies in words: what the examples are written with.
 -- Assumes nothing.
-use mathlib.Core.List.{List, [], _∷_}
+use mathlib.Core.List.{[], _∷_}
 use Prim.Native.Nat.{ℕ}
 use lib.IntN.{ℤ, pos}
-use Rattle.units.specs.Payments.{unitPrice, payable, fullPayment, firstPayment, restPayment, partPayment, penaltyPassed}
-use Rattle.zone.specs.declared.Zone.{Zone}
-use Rattle.zone.specs.Held.{full, held, share, heldBy}
-use Rattle.zone.specs.Record.{recordOf}
 use Rattle.rules.specs.declared.Call.{Call}
-use Rattle.rules.specs.declared.Entry.{Entry}
-use Rattle.rules.specs.Effects.{register, listFor, withdrawListing, limitBid, marketBid, withdrawBid, quoteLot, lodge, closeLot, payFirst, sendInvoice, confirm, dayCloseLot, noRule, ruleOf, opening, firstLot, lotCount, ending, effect}
-use Rattle.rules.specs.Events.{give, take, release, freeze, passed, moved, happen, sweep}
-use Rattle.rules.specs.Numbers.{illFormed, outOfRange, wrongPhase, wrongState, wrongParty, notAbove, noAsk, notPayable, noMoney, aboveLimit, aboveInvoice, number}
-use Rattle.rules.specs.Outcome.{refused, accepted, numberOf, outcome}
-use Rattle.rules.specs.Tables.{nth, put}
-use Rattle.rules.specs.View.{freeAt, frozenAt, receiptAt, askAt, viewOf}
+use Rattle.claims.specs.History.{Reply, acceptedWith}
 
 -- ── Calls ──────────────────────────────────────────────────────────────────────────────────────
 
@@ -75,39 +65,11 @@ confirms account receipt = at 14 account receipt 0
 abbrev pub dayClose : Call
 dayClose = at 15 0 0 0
 
--- ── Answers ────────────────────────────────────────────────────────────────────────────────────
+-- ── Replies ────────────────────────────────────────────────────────────────────────────────────
 
--- the number returned, or the entries listed
-pub data Said : Type 0 where
-  turnedDown : ℕ → Said
-  listing : List Entry → Said
+-- of an accepted call without an entry, and with one
+abbrev pub noEntries : Reply
+noEntries = acceptedWith []
 
-abbrev pub entry : ℕ → ℕ → ℕ → ℕ → ℕ → Entry
-entry lot outcome from to number = record { lot = lot; outcome = outcome; from = from; to = to; number = number }
-
--- no entry, or one
-abbrev pub silent : Said
-silent = listing []
-
-abbrev pub says : ℕ → ℕ → ℕ → ℕ → ℕ → Said
-says lot outcome from to number = listing (entry lot outcome from to number ∷ [])
-
--- ── Calls one after the other ──────────────────────────────────────────────────────────────────
-
--- the answer, and the zone after it
-unfoldable pub made : Zone → Call → Said × Zone
-unfolding outcome numberOf number illFormed outOfRange wrongPhase wrongState wrongParty notAbove noAsk notPayable noMoney aboveLimit aboveInvoice effect opening ending firstLot lotCount ruleOf register listFor withdrawListing limitBid marketBid withdrawBid quoteLot lodge closeLot payFirst sendInvoice confirm dayCloseLot noRule give take release freeze passed moved happen sweep nth put freeAt frozenAt receiptAt askAt viewOf share held full heldBy recordOf unitPrice payable fullPayment firstPayment restPayment partPayment penaltyPassed
-made z c = elim (outcome z c) [ refused n ↦ (turnedDown n, z) | accepted d ↦ (listing (d .entries), d .zone) ]
-
-unfoldable pub replay : List Call → Zone → List Said
-unfolding made
-replay [] z = []
-replay (c ∷ cs) z =
-    let m = made z c in
-    m .0 ∷ replay cs (m .1)
-
--- the zone after the calls
-unfoldable pub zoneAfter : List Call → Zone → Zone
-unfolding made
-zoneAfter [] z = z
-zoneAfter (c ∷ cs) z = zoneAfter cs (made z c .1)
+abbrev pub oneEntry : ℕ → ℕ → ℕ → ℕ → ℕ → Reply
+oneEntry lot outcome from to number = acceptedWith (record { lot = lot; outcome = outcome; from = from; to = to; number = number } ∷ [])

@@ -32,7 +32,7 @@ recordNumber image call answer =
 
 -- ── What is left behind ────────────────────────────────────────────────────────────────────────
 
--- in the answer of a refusal (01 Answers 9 to 11): by 1 nothing is written, by any other the number stands before zeros
+-- in the answer of a refusal (01 Answers 12, 25): by 1 nothing is written, by any other the number stands before zeros
 unfoldable pub refusal : ℕ → List ℕ → List ℕ
 refusal n answer = cond (eqb n 1) answer (refusedAnswer n answer)
 

@@ -1,118 +1,159 @@
--- Demand 3: over every list of calls zone and history table stay in step, and each strike is fair.
+-- Demand 3, from what holds on values: the image stays valid, and the answer gives back the entries.
 -- Assumes nothing.
-use mathlib.Core.Bool.{true}
-use mathlib.Core.List.{List, [], _∷_}
-use mathlib.Core.Path.{_≡_, refl, sym, _∙_, subst}
-use Prim.Native.Nat.{ℕ, _≤_, _<_}
-use Rattle.zone.specs.declared.Receipt.{Receipt}
+use mathlib.Core.Bool.{Bool, true, false, not, cond}
+use mathlib.Core.List.{List, [], _∷_, map}
+use mathlib.Core.Path.{_≡_, refl, sym, ap, _∙_, subst}
+use Prim.Native.Nat.{ℕ, zero, suc, _^_, _<_}
+use native.Mathlib.Nat.{le-of-suc-le-suc, not-suc-le-zero}
+use native.Mathlib.Omega.{arith}
+use lib.Dec.{eqb, ltb}
+use lib.ListN.{length}
 use Rattle.zone.specs.declared.Zone.{Zone}
-use Rattle.zone.specs.Laws.Valid.{fresh-valid}
-use Rattle.zone.specs.Valid.{validZone, freshZone}
+use Rattle.zone.specs.Valid.{freshZone}
 use Rattle.rules.specs.declared.Call.{Call}
 use Rattle.rules.specs.declared.Entry.{Entry}
-use Rattle.rules.specs.Effects.{opening, ending}
-use Rattle.rules.specs.Events.{happen, Done}
-use Rattle.rules.specs.Laws.Chain.{Taken, taken}
-use Rattle.rules.specs.Laws.Fit.{funded, fit-lot}
-use Rattle.rules.specs.Laws.Good.{Good, good-of, valid-at}
-use Rattle.rules.specs.Laws.Keeps.{opening-good}
-use Rattle.rules.specs.Laws.Links.{Linked, Walk, good-walk}
-use Rattle.rules.specs.Outcome.{accepted, outcome}
-use Rattle.rules.specs.Sized.{Sized}
-use Rattle.rules.specs.Order.{Listed, asRuled, anyOrder}
-use Rattle.claims.specs.Demand.{Made, start, turnedDown, carriedOut, Holds, Demand3}
-use Rattle.claims.specs.History.{Answer, refusedWith, entriesOf, Table, enter, enterAll, cash, history, EachFair, EachStrikeFair}
-use Rattle.claims.specs.Kept.{Kept}
-use Rattle.claims.specs.Laws.InStep.{InStep, event-kept, opening-kept, ending-kept, fresh-in-step, sum-kept}
+use Rattle.rules.specs.Effects.{effect}
+use Rattle.rules.specs.Events.{Done}
+use Rattle.rules.specs.Order.{Permuted, none, keep, swap, via, AnswerOrder, asRuled, anyOrder}
+use Rattle.rules.specs.Steps.{numberOn}
+use Rattle.image.specs.Image.{validImage, decode, encode}
+use Rattle.image.specs.Laws.RoundTrip.{decode-encode, valid-encode, valid-decode, fresh-valid, fresh-sized, decode-sized}
+use Rattle.crz.specs.Buffers.{callLength, answerLength, callIn, entriesIn, acceptedAnswer}
+use Rattle.crz.specs.Laws.ReadBack.{Numbered, entries-back}
+use Rattle.crz.specs.Returned.{behindBuffers, callNumber, recordNumber, Left, refused, accepted}
+use Rattle.claims.specs.Demand.{Exchange, MadeFrom, noCalls, next, fed, KeepsImage, ImageKept, StaysValid, Demand3}
+use Rattle.claims.specs.History.{acceptedWith}
+use Rattle.claims.specs.Kept.{Ascending, Kept}
+use Rattle.claims.specs.Laws.Values.{After, after-refused, after-accepted, after-fresh, holds}
 use Rattle.claims.specs.Laws.Kept.{keeps-valid}
-use Rattle.claims.specs.Laws.Order.{Apart, ascending-apart, permuted-enter, permuted-fair}
-use Rattle.claims.specs.Laws.Told.{Told, link-told}
 
--- the entries es of call c bring the table h into step with the zone z, and each strike among them is fair
-pub record Fed (c : Call) (es : List Entry) (z : Zone) (h : Table) : Type 0 where
-  pub inStep : InStep z (enterAll c es h)
-  pub fair : EachFair c es h
+-- ── The entries of an answer ───────────────────────────────────────────────────────────────────
+
+-- each number fits four bytes
+abbrev Small : List Entry → Type 0
+Small [] = Unit {0}
+Small (e ∷ es) = (e .number < 2 ^ 32) × Small es
+
+small-ascending : (n : ℕ) (es : List Entry) → Ascending n es → Small es
+small-ascending n [] a = tt
+small-ascending n (e ∷ es) a = (a .1 .number, small-ascending (suc (e .lot)) es (a .2))
+
+small-permuted : {es fs : List Entry} → Permuted es fs → Small es → Small fs
+small-permuted none s = tt
+small-permuted (keep p) s = (s .0, small-permuted p (s .1))
+small-permuted swap s = (s .1 .0, (s .0, s .1 .1))
+small-permuted (via p q) s = small-permuted q (small-permuted p s)
+
+length-permuted : {es fs : List Entry} → Permuted es fs → length fs ≡ length es
+length-permuted none = refl
+length-permuted (keep p) = ap suc (length-permuted p)
+length-permuted swap = refl
+length-permuted (via p q) = length-permuted q ∙ length-permuted p
+
+numbered : (es : List Entry) → Small es → Numbered es
+numbered [] s k h = absurd (not-suc-le-zero h)
+numbered (e ∷ es) s zero h = s .0
+numbered (e ∷ es) s (suc k) h = numbered es (s .1) k (le-of-suc-le-suc h)
+
+-- as a quote may list them
+ordered-small : {c : Call} {es fs : List Entry} → AnswerOrder c es fs → Small es → Small fs
+ordered-small asRuled s = s
+ordered-small (anyOrder k p) s = small-permuted p s
+
+ordered-length : {c : Call} {es fs : List Entry} → AnswerOrder c es fs → length fs ≡ length es
+ordered-length asRuled = refl
+ordered-length (anyOrder k p) = length-permuted p
+
+-- ── Number 0 ───────────────────────────────────────────────────────────────────────────────────
+
+record Zero (image : List ℕ) (c : Call) : Type 0 where
+  valid : validImage image ≡ true
+  number : numberOn (decode image) c ≡ 0
+
+behind-0 : (image answer : List ℕ) (n : ℕ) → 0 ≡ behindBuffers image answer n → (validImage image ≡ true) × (n ≡ 0)
+unfolding behindBuffers
+behind-0 image answer n h = go (ltb (length answer) answerLength) (validImage image) h
+  where
+    go : (a b : Bool) → 0 ≡ cond a 1 (cond (not b) 2 n) → (b ≡ true) × (n ≡ 0)
+    go true b h = absurd (omega arith)
+    go false true h = (refl, sym h)
+    go false false h = absurd (omega arith)
+
+zero-for : (image call answer : List ℕ) → 0 ≡ recordNumber image call answer → Zero image (callIn call)
+unfolding recordNumber callNumber
+zero-for image call answer h = go (eqb (length call) callLength) h
+  where
+    go : (b : Bool) → 0 ≡ cond b (behindBuffers image answer (numberOn (decode image) (callIn call))) (behindBuffers image answer 3) → Zero image (callIn call)
+    go true h = let t = behind-0 image answer _ h in record { valid = t .0; number = t .1 }
+    go false h = absurd (let t = behind-0 image answer 3 h .1 in omega arith)
 
 -- ── One call ───────────────────────────────────────────────────────────────────────────────────
 
-module _ (c : Call) where
-  -- one event, then the others
-  link-fed : {lo : ℕ} {z : Zone} {n : ℕ} {e : Entry} {r : Receipt} {es : List Entry} {last : Zone} → Linked c lo z n e r →
-      ((h : Table) → InStep (happen z e r) h → Fed c es last h) → (h : Table) → InStep z h → Fed c (e ∷ es) last h
-  unfolding enterAll EachFair
-  link-fed {z = z} {n = n} {e = e} {r = r} L others h I =
-      let low : 0 < e .lot = rw (L .fit .entry .lot) (L .low) in
-      let high : e .lot ≤ 128 = rw (L .fit .entry .lot) (L .high) in
-      let T : Told c (h .lots (e .lot)) e r
-      = subst (λ (m : ℕ). Told c (h .lots m) e r) (sym (L .fit .entry .lot))
-      (link-told c z (h .lots n) n (valid-at z (L .good) n) (I .linked n (L .low) (L .high)) (L .visit) (L .rule)) in
-      let F = funded z e r low high (L .good) (fit-lot z n e r (L .low) (L .high) (L .good) (L .fit)) in
-      let K = others (enter c e h) (event-kept c z h e r (L .good .sized) low high I F T) in
-      record { inStep = K .inStep; fair = (T .fair, K .fair) }
+module _ (image : List ℕ) (c : Call) (ok : Zero image c) where
+  abbrev done : Done
+  done = effect (decode image) c
 
-  feeds : Walk c (λ lo z es last. (h : Table) → InStep z h → Fed c es last h)
-  unfolding enterAll EachFair
-  feeds = record { end = λ G h I. record { inStep = I; fair = tt }; step = λ L others. link-fed L others }
+  kept : Kept done
+  kept = keeps-valid (decode image) c (decode-sized image) (valid-decode image (ok .valid)) (ok .number)
 
--- opening, events, ending
-call-fed : (z : Zone) (c : Call) (d : Done) (h : Table) → outcome z c ≡ accepted d → Good z → InStep z h →
-    Fed c (d .entries) (d .zone) (cash c h)
-call-fed z c d h q G I =
-    let T : Taken z c d = taken z c d q in
-    let J : InStep (opening c z) (cash c h) = opening-kept c z h (G .sized) I (T .passed) in
-    let K : Fed c (d .entries) (T .last) (cash c h) = good-walk (feeds c) (T .chain) (opening-good z G c (T .passed)) (cash c h) J in
-    let E : InStep (ending c (T .last)) (enterAll c (d .entries) (cash c h)) = ending-kept c (T .last) _ (K .inStep) in
-    record { inStep = subst (λ (y : Zone). InStep y (enterAll c (d .entries) (cash c h))) (sym (T .zone)) E; fair = K .fair }
+  new-valid : validImage (encode (done .zone)) ≡ true
+  new-valid = valid-encode (done .zone) (kept .sized) (kept .valid)
 
--- a quote's entries in any order
-listed-fed : {c : Call} {es fs : List Entry} {z : Zone} {h : Table} → Listed c es fs → Apart es → Fed c es z h → Fed c fs z h
-listed-fed asRuled A K = K
-listed-fed {c} {es} {fs} {z} {h} (anyOrder e p) A K =
-    record { inStep = subst (InStep z) (permuted-enter c p A h) (K .inStep); fair = permuted-fair c p A h (K .fair) }
+  new-zone : decode (encode (done .zone)) ≡ done .zone
+  new-zone = decode-encode (done .zone) (kept .sized) (kept .valid)
 
--- ── Every list of calls ────────────────────────────────────────────────────────────────────────
+  read-back : (es : List Entry) (answer : List ℕ) → AnswerOrder c (done .entries) es → entriesIn (acceptedAnswer (done .zone) es answer) ≡ es
+  read-back es answer p =
+      entries-back (done .zone) es answer (omega (arith, ordered-length p, kept .count))
+      (numbered es (ordered-small p (small-ascending 1 (done .entries) (kept .ascending))))
 
--- what holds after the list
-pub record After (list : List (Call × Answer)) (z : Zone) : Type 0 where
-  pub sized : Sized z
-  pub valid : validZone z ≡ true
-  pub inStep : InStep z (history list)
-  pub fair : EachStrikeFair list
+-- ── The claims ─────────────────────────────────────────────────────────────────────────────────
 
--- a refused call changes nothing
-pub after-refused : {list : List (Call × Answer)} {z : Zone} (c : Call) (n : ℕ) → After list z → After ((c, refusedWith n) ∷ list) z
-unfolding history EachStrikeFair
-after-refused c n A = record { sized = A .sized; valid = A .valid; inStep = A .inStep; fair = (tt, A .fair) }
+pub image-kept : ImageKept
+image-kept image call answer number image′ answer′ R = go (R .left) (R .is)
+  where
+    go : {n : ℕ} {i a : List ℕ} → Left image (callIn call) answer n i a → n ≡ recordNumber image call answer → KeepsImage image n i
+    go (refused n) e = record { accepted = λ h. absurd (omega arith); refused = λ n h. refl }
+    go (accepted es p) e = record { accepted = λ h. new-valid image (callIn call) (zero-for image call answer e); refused = λ n h. absurd (omega arith) }
 
-pub after-accepted : {list : List (Call × Answer)} {z : Zone} (c : Call) (d : Done) (es : List Entry) → After list z → outcome z c ≡ accepted d
-    → Listed c (d .entries) es → After ((c, entriesOf es) ∷ list) (d .zone)
-unfolding history EachStrikeFair
-after-accepted {list} {z} c d es A q p =
-    let W : Kept d = keeps-valid z c d (A .sized) (A .valid) q in
-    let F = call-fed z c d (history list) q (good-of z (A .sized) (A .valid)) (A .inStep) in
-    let K : Fed c es (d .zone) (cash c (history list)) = listed-fed p (ascending-apart 1 (d .entries) (W .ascending)) F in
-    record { sized = W .sized; valid = W .valid; inStep = K .inStep; fair = (K .fair, A .fair) }
+record AfterOn (list : List Exchange) (image : List ℕ) : Type 0 where
+  valid : validImage image ≡ true
+  after : After (map fed list) (decode image)
 
-pub after-fresh : After [] freshZone
-unfolding history EachStrikeFair freshZone
-after-fresh =
-    record { sized = record { accounts = refl; receipts = refl; asks = refl }; valid = fresh-valid; inStep = fresh-in-step; fair = tt }
-
-pub after-made : {list : List (Call × Answer)} {z : Zone} → Made list z → After list z
-after-made start = after-fresh
-after-made (turnedDown m c n q) = after-refused c n (after-made m)
-after-made (carriedOut m c d es q p) = after-accepted c d es (after-made m) q p
-
--- what holds after the list is what the claim says
-pub holds : (list : List (Call × Answer)) (z : Zone) → After list z → Holds list z
-holds list z A =
-    let G = good-of z (A .sized) (A .valid) in
+after-next : {list : List Exchange} {image : List ℕ} (call answer : List ℕ) {number : ℕ} {image′ answer′ : List ℕ} → AfterOn list image
+    → Left image (callIn call) answer number image′ answer′ → number ≡ recordNumber image call answer
+    → AfterOn (record { call = call; number = number; answer = answer′ } ∷ list) image′
+after-next call answer A (refused n) e = record { valid = A .valid; after = after-refused (callIn call) (suc n) (A .after) }
+after-next {list} {image} call answer A (accepted es p) e =
+    let c : Call = callIn call in
+    let Z : Zero image c = zero-for image call answer e in
+    let d : Done = effect (decode image) c in
+    let B : After ((c, acceptedWith es) ∷ map fed list) (d .zone) = after-accepted c es (A .after) (Z .number) p in
     record {
-      books = λ x a b. A .inStep .money x a;
-      frozen = λ x a b. G .frozen x a b ∙ sym (sum-kept z (history list) (A .sized) (A .inStep) x);
-      owners = λ k a b. A .inStep .linked k a b .owner;
-      strikes = A .fair;
+      valid = new-valid image c Z;
+      after = subst (λ (z : Zone). After ((c, acceptedWith (entriesIn (acceptedAnswer (d .zone) es answer))) ∷ map fed list) z) (sym (new-zone image c Z))
+          (subst (λ (fs : List Entry). After ((c, acceptedWith fs) ∷ map fed list) (d .zone)) (sym (read-back image c Z es answer p)) B);
     }
 
+after-fresh-image : AfterOn [] (encode freshZone)
+after-fresh-image =
+    record { valid = fresh-valid; after = subst (After []) (sym (decode-encode freshZone fresh-sized (after-fresh .valid))) after-fresh }
+
+after-made : {list : List Exchange} {image : List ℕ} → MadeFrom (encode freshZone) list image → AfterOn list image
+after-made noCalls = after-fresh-image
+after-made (next m call answer number image′ answer′ R) = after-next call answer (after-made m) (R .left) (R .is)
+
 pub demand3 : Demand3
-demand3 list z m = holds list z (after-made m)
+demand3 list image m = holds (map fed list) (decode image) (after-made m .after)
+
+-- ── Any start ──────────────────────────────────────────────────────────────────────────────────
+
+-- by the number, a call left a valid image or the one it was made on
+valid-after : {image : List ℕ} (number : ℕ) (image′ : List ℕ) → KeepsImage image number image′ → validImage image ≡ true → validImage image′ ≡ true
+valid-after zero image′ K v = K .accepted refl
+valid-after (suc n) image′ K v = subst (λ (s : List ℕ). validImage s ≡ true) (sym (K .refused n refl)) v
+
+pub stays-valid : StaysValid
+stays-valid start list image v noCalls = v
+stays-valid start _ _ v (next {list} {image} m call answer number image′ answer′ R) =
+    valid-after number image′ (image-kept image call answer number image′ answer′ R) (stays-valid start list image v m)

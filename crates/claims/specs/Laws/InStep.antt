@@ -9,55 +9,57 @@ use native.Mathlib.Omega.{arith}
 use borrow.Author.Tests.{eq-eqb, ne-eqb, ltb-false}
 use lib.Dec.{eqb}
 use lib.ListN.{length, getD, replicate}
+use Rattle.units.specs.Payments.{fen}
+use Rattle.units.specs.Ranges.{accountCount, receiptCount}
 use Rattle.zone.specs.declared.Account.{Account}
 use Rattle.zone.specs.declared.Receipt.{Receipt}
 use Rattle.zone.specs.declared.Zone.{Zone}
 use Rattle.zone.specs.Held.{heldSum}
 use Rattle.zone.specs.Laws.Tests.{range-in}
 use Rattle.zone.specs.Record.{recordOf}
-use Rattle.zone.specs.Valid.{nothing, noReceipt, freshZone}
+use Rattle.zone.specs.Valid.{Sized, emptyAccount, noReceipt, freshZone}
 use Rattle.rules.specs.declared.Call.{Call}
 use Rattle.rules.specs.declared.Entry.{Entry}
 use Rattle.rules.specs.Effects.{opening, ending}
-use Rattle.rules.specs.Events.{happen}
-use Rattle.rules.specs.Laws.Funded.{Funded, booked}
+use Rattle.rules.specs.Events.{posted}
+use Rattle.rules.specs.Laws.Funded.{booked}
 use Rattle.rules.specs.Laws.Keeps.{no-opening, ended}
 use Rattle.rules.specs.Laws.Kinds.{withKind}
-use Rattle.rules.specs.Laws.Moves.{free-give, frozen-give, free-take, frozen-take}
+use Rattle.rules.specs.Laws.Moves.{free-credit, frozen-credit, free-debit, frozen-debit}
 use Rattle.rules.specs.Laws.Passed.{PassedAt, ranges}
 use Rattle.rules.specs.Laws.Tables.{nth-put-same, nth-put-other, special, among-none}
-use Rattle.rules.specs.Numbers.{noMoney}
-use Rattle.rules.specs.Sized.{Sized}
+use Rattle.rules.specs.Numbers.{lacksMoney}
+use Rattle.rules.specs.Ready.{Funded}
 use Rattle.rules.specs.Tables.{nth, put}
-use Rattle.rules.specs.View.{freeAt, frozenAt, receiptAt, viewOf}
+use Rattle.rules.specs.View.{freeAt, frozenAt, receiptAt, recordAt, viewOf}
 use Rattle.claims.specs.History.{Table, empty, remember, enter, cash, heldOver}
-use Rattle.claims.specs.Laws.Knows.{of-share, of-zero, transferred-passed, Known, known-sum}
+use Rattle.claims.specs.Laws.Knows.{fen-share, fen-zero, transferred-money, Known, known-sum}
 use Rattle.claims.specs.Laws.Told.{Told}
 
 -- accounts l and receipts rs, and the table h
 pub record InStepOf (l : List Account) (rs : List Receipt) (h : Table) : Type 0 where
   pub money : (x : ℕ) → 0 < x → freeAt l x .0 + frozenAt l x .0 + h .takeOuts x + h .sent x ≡ h .payIns x + h .got x
-  pub linked : (k : ℕ) → 0 < k → k ≤ 128 → Known (receiptAt rs k) (h .lots k)
+  pub linked : (k : ℕ) → 0 < k → k ≤ receiptCount → Known (recordOf (receiptAt rs k)) (h .lots k)
 
 abbrev pub InStep : Zone → Table → Type 0
 InStep z h = InStepOf (z .accounts) (z .receipts) h
 
 -- ── An event ───────────────────────────────────────────────────────────────────────────────────
 
-module _ (c : Call) (z : Zone) (h : Table) (e : Entry) (r′ : Receipt) (S : Sized z) (low : 0 < e .lot) (high : e .lot ≤ 128) (I : InStep z h)
-    (F : Funded (z .accounts) (receiptAt (z .receipts) (e .lot)) e r′) (T : Told c (h .lots (e .lot)) e r′) where
-  pub event-kept : InStep (happen z e r′) (enter c e h)
-  unfolding happen enter receiptAt
+module _ (c : Call) (z : Zone) (h : Table) (e : Entry) (r′ : Receipt) (S : Sized z) (low : 0 < e .lot) (high : e .lot ≤ receiptCount) (I : InStep z h)
+    (F : Funded (z .accounts) (recordAt z (e .lot)) e (recordOf r′)) (T : Told c (h .lots (e .lot)) e r′) where
+  pub event-kept : InStep (posted z e r′) (enter c e h)
+  unfolding posted enter receiptAt
   event-kept =
       record {
         money = λ x q.
-            let B = booked (z .accounts) (receiptAt (z .receipts) (e .lot)) e r′ F x q in
-            rw (transferred-passed e, of-share x (e .from), of-share x (e .to)) (omega (arith, B .money, I .money x q));
+            let B = booked (z .accounts) (recordAt z (e .lot)) e (recordOf r′) F x q in
+            rw (transferred-money e, fen-share x (e .from), fen-share x (e .to)) (omega (arith, B .money, I .money x q));
         linked = λ k a b. go k a b (ℕ-discrete k (e .lot));
       }
     where
-      go : (k : ℕ) → 0 < k → k ≤ 128 → Dec (k ≡ e .lot) →
-          Known (nth noReceipt (put (z .receipts) (e .lot) r′) k) (cond (eqb k (e .lot)) (remember c e (h .lots k)) (h .lots k))
+      go : (k : ℕ) → 0 < k → k ≤ receiptCount → Dec (k ≡ e .lot) →
+          Known (recordOf (nth noReceipt (put (z .receipts) (e .lot) r′) k)) (cond (eqb k (e .lot)) (remember c e (h .lots k)) (h .lots k))
       go k a b (yes q) =
           rw (eq-eqb k (e .lot) q) (rw q (rw (nth-put-same noReceipt (z .receipts) (e .lot) r′ low (rw (S .receipts) high)) (T .known)))
       go k a b (no q) = rw (ne-eqb k (e .lot) q, nth-put-other noReceipt (z .receipts) k (e .lot) r′ q) (I .linked k a b)
@@ -74,27 +76,27 @@ module _ (c : Call) (z : Zone) (h : Table) (S : Sized z) (I : InStep z h) where
       let i : c .account ≤ length (z .accounts) = rw (S .accounts) (range-in (ranges P .0) .high) in
       record {
         money = λ x q.
-            rw (of-zero x (c .account), of-share x (c .account) (c .amount))
-            (omega (arith, I .money x q, free-give (z .accounts) x (c .account) q i (c .amount), frozen-give (z .accounts) x (c .account) q i (c .amount)));
+            rw (fen-zero x (c .account), fen-share x (c .account) (c .amount))
+            (omega (arith, I .money x q, free-credit (z .accounts) x (c .account) q i (fen (c .amount)), frozen-credit (z .accounts) x (c .account) q i (fen (c .amount))));
         linked = I .linked;
       }
 
   taken-out : Opens 2
-  unfolding opening cash viewOf noMoney
+  unfolding opening cash viewOf lacksMoney
   taken-out P =
       let i : c .account ≤ length (z .accounts) = rw (S .accounts) (range-in (ranges P .0) .high) in
       let m : c .amount ≤ freeAt (z .accounts) (c .account) .0 = ltb-false _ _ (P .money) in
       record {
         money = λ x q.
-            rw (of-zero x (c .account), of-share x (c .account) (c .amount))
-            (omega (arith, I .money x q, free-take (z .accounts) x (c .account) q i (c .amount) (λ _. m), frozen-take (z .accounts) x (c .account) q i (c .amount)));
+            rw (fen-zero x (c .account), fen-share x (c .account) (c .amount))
+            (omega (arith, I .money x q, free-debit (z .accounts) x (c .account) q i (fen (c .amount)) (λ _. m), frozen-debit (z .accounts) x (c .account) q i (fen (c .amount))));
         linked = I .linked;
       }
 
   -- neither pay-in nor take-out
   no-cash : (b : Call) → eqb (b .kind) 1 ≡ false → eqb (b .kind) 2 ≡ false → InStep z (cash b h)
   unfolding cash
-  no-cash b e1 e2 = record { money = λ x q. rw (e1, e2, of-zero x (b .account)) (omega (arith, I .money x q)); linked = I .linked }
+  no-cash b e1 e2 = record { money = λ x q. rw (e1, e2, fen-zero x (b .account)) (omega (arith, I .money x q)); linked = I .linked }
 
   ask-set : Opens 9
   unfolding opening
@@ -126,15 +128,15 @@ unfolding freshZone freeAt frozenAt receiptAt recordOf
 fresh-in-step =
     record {
       money = λ x q.
-          omega (arith, ap (λ (a : Account). a .free .0) (nth-replicate nothing 96 x), ap (λ (a : Account). a .frozen .0) (nth-replicate nothing 96 x));
-      linked = λ k a b. rw (nth-replicate noReceipt 128 k) (record { lot = λ x. refl; owner = refl });
+          omega (arith, ap (λ (a : Account). a .free .0) (nth-replicate emptyAccount accountCount x), ap (λ (a : Account). a .frozen .0) (nth-replicate emptyAccount accountCount x));
+      linked = λ k a b. rw (nth-replicate noReceipt receiptCount k) (record { lot = λ x. refl; rest = record { owner = refl; registered = λ _. refl; paid = omega arith } });
     }
 
 -- ── What it says ───────────────────────────────────────────────────────────────────────────────
 
 -- the table's sum is the lots' sum
-pub sum-kept : (z : Zone) (h : Table) → Sized z → InStep z h → (x : ℕ) → heldOver x 128 1 h ≡ heldSum recordOf x (z .receipts)
+pub sum-kept : (z : Zone) (h : Table) → Sized z → InStep z h → (x : ℕ) → heldOver x receiptCount 1 h ≡ heldSum recordOf x (z .receipts)
 unfolding receiptAt nth
 sum-kept z h S I x =
     rw (S .receipts) at (known-sum x (z .receipts) 1 h λ k b.
-    subst (λ (m : ℕ). Known (getD (z .receipts) k noReceipt) (h .lots m)) (omega arith) (I .linked (suc k) (omega arith) (omega (arith, S .receipts))))
+    subst (λ (m : ℕ). Known (recordOf (getD (z .receipts) k noReceipt)) (h .lots m)) (omega arith) (I .linked (suc k) (omega arith) (omega (arith, S .receipts))))

@@ -6,7 +6,7 @@ use native.Mathlib.Omega.{arith}
 use lib.Dec.{lit<}
 use lib.ListN.{length, take, drop, getD}
 use lib.Seq.{getD-drop}
-use Rattle.wire.specs.Laws.Bytes.{Bytes}
+use Rattle.wire.specs.LittleEndian.{Bytes}
 use Rattle.image.specs.Table.{tableBytes}
 
 pub bytes-cons : (x : ℕ) (s : List ℕ) → x < 256 → Bytes s → Bytes (x ∷ s)

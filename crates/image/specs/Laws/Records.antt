@@ -17,8 +17,8 @@ use mir.Val.{SFits}
 use Rattle.units.specs.declared.YuanPerTonne.{YuanPerTonne}
 use Rattle.units.specs.Payments.{fen}
 use Rattle.units.specs.Ranges.{accountCount, receiptCount, contractCount, mostPrice, mostBasis, isBasis, isPrice}
-use Rattle.wire.specs.LittleEndian.{leAt, leBytes, signed32, bits32}
-use Rattle.wire.specs.Laws.Bytes.{Bytes, leAt-leBytes, leBytes-leAt, leAt-lt, bytes-leBytes, bytes-zeros}
+use Rattle.wire.specs.LittleEndian.{leAt, leBytes, signed32, bits32, Bytes}
+use Rattle.wire.specs.Laws.Bytes.{leAt-leBytes, leBytes-leAt, leAt-lt, bytes-leBytes, bytes-zeros}
 use Rattle.wire.specs.Laws.TwosComplement.{signed-bits, bits-signed, bits-lt}
 use Rattle.zone.specs.declared.Account.{Account}
 use Rattle.zone.specs.declared.Record.{Record}

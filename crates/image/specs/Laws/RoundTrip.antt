@@ -12,7 +12,7 @@ use lib.ListN.{length, take, drop, getD, length-append, length-take, length-drop
 use lib.Seq.{take-all}
 use Rattle.units.specs.Payments.{fen}
 use Rattle.units.specs.Ranges.{accountCount, receiptCount, contractCount, mostPrice}
-use Rattle.wire.specs.Laws.Bytes.{Bytes}
+use Rattle.wire.specs.LittleEndian.{Bytes}
 use Rattle.zone.specs.declared.Receipt.{Receipt}
 use Rattle.zone.specs.declared.Record.{Record}
 use Rattle.zone.specs.declared.Zone.{Zone}

@@ -10,7 +10,7 @@ use lib.Arith.{mod-mul}
 use lib.Dec.{lit<}
 use lib.ListN.{length, getD, take, drop, set, replicate, length-append}
 use lib.Seq.{sets, sets-eq, append-snoc, getD-append-seam, length-take-le, drop-cons, getD-set-other, set-comm}
-use Rattle.wire.specs.LittleEndian.{leAt, leBytes}
+use Rattle.wire.specs.LittleEndian.{leAt, leBytes, Bytes}
 
 -- ---- a number and its bytes
 
@@ -119,11 +119,7 @@ pub sets-comm : (s : List ℕ) (i : ℕ) (p : List ℕ) (j : ℕ) (q : List ℕ)
 sets-comm s i [] j q h = refl
 sets-comm s i (x ∷ p) j q h = rw (sets-comm (set s i x) (suc i) p j q (omega arith), set-sets s i x j q (omega arith))
 
--- ---- lists of bytes
-
--- each element is a byte; of a slice at a need it is `λ k. c .slice-known .given k .fits`
-abbrev pub Bytes : List ℕ → Type 0
-Bytes s = (k : ℕ) → getD s k 0 < 256
+-- ── Lists of bytes ─────────────────────────────────────────────────────────────────────────────
 
 -- w bytes are a number below 256 ^ w
 pub leAt-lt : (w : ℕ) (s : List ℕ) (at : ℕ) → Bytes s → leAt w s at < 256 ^ w
