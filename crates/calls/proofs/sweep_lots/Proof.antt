@@ -53,7 +53,7 @@ here c = bytes-of _ (zone-so-far c) (c .before .loop .inv .1) (good c)
 has-room : (c : tie.In-loop Inv-loop μ-loop) → c .before .loop .count < receiptCount
 unfolding entryArray
 has-room c =
-    omega (arith, room (c .before .before .before .args .c) _ (c .before .before .before .pre .2) (start-good (c .before .before .before)) (c .before .loop .i) (c .loop-test .taken), ap (λ (e : Entries). e .count) (c .before .loop .inv .2))
+    omega (arith, room (c .before .before .before .args .c) _ (c .before .before .before .pre .2) (start-good (c .before .before .before)) (c .before .loop .i) (omega arith), ap (λ (e : Entries). e .count) (c .before .loop .inv .2))
 
 -- ── The next lot ───────────────────────────────────────────────────────────────────────────────
 
@@ -67,8 +67,8 @@ OneMore c s es =
 one-more : (c : tie.In-loop Inv-loop μ-loop) (at : AtLot) → ruleAt (c .before .before .before .args .c) (zone-so-far c) (c .before .loop .i + 1) ≡ at → (s : List ℕ) (es : Entries)
     → s ≡ encode (afterLot (zone-so-far c) at .zone) → es ≡ recorded (record { count = c .before .loop .count; all = c .before .loop .entries }) at → OneMore c s es
 one-more c at q s es a b = (
-  a ∙ ap encode (next-zone (c .before .before .before .args .c) _ (c .before .before .before .pre .2) (start-good (c .before .before .before)) (c .before .loop .i) (c .loop-test .taken) at q),
-  b ∙ ap (λ (e : Entries). recorded e at) (c .before .loop .inv .2) ∙ next-entries (c .before .before .before .args .c) _ (c .before .before .before .pre .2) (start-good (c .before .before .before)) (c .before .loop .i) (c .loop-test .taken) at q,
+  a ∙ ap encode (next-zone (c .before .before .before .args .c) _ (c .before .before .before .pre .2) (start-good (c .before .before .before)) (c .before .loop .i) (omega arith) at q),
+  b ∙ ap (λ (e : Entries). recorded e at) (c .before .loop .inv .2) ∙ next-entries (c .before .before .before .args .c) _ (c .before .before .before .pre .2) (start-good (c .before .before .before)) (c .before .loop .i) (omega arith) at q,
 )
 
 -- what the rule did at the lot
