@@ -25,7 +25,7 @@ host: lib
 
 install: host
 	install -d $(DESTDIR)$(PREFIX)/include $(DESTDIR)$(PREFIX)/lib/pkgconfig $(DESTDIR)$(PREFIX)/bin
-	install -m 644 include/crz.h $(DESTDIR)$(PREFIX)/include/crz.h
+	install -m 644 include/crz.h include/crz_records.h $(DESTDIR)$(PREFIX)/include
 	install -m 644 target/staticlib/libcrz.a $(DESTDIR)$(PREFIX)/lib/libcrz.a
 	sed 's|@PREFIX@|$(PREFIX)|' host/crz.pc.in >$(DESTDIR)$(PREFIX)/lib/pkgconfig/crz.pc
 	install -m 755 target/crz $(DESTDIR)$(PREFIX)/bin/crz

@@ -40,7 +40,7 @@ static int image_valid(const uint8_t *image)
 {
     uint8_t copy[CRZ_IMAGE_LENGTH], answer[CRZ_ANSWER_LENGTH];
     memcpy(copy, image, sizeof copy);
-    return crz_call(copy, sizeof copy, NULL, 0, answer, sizeof answer) == CRZ_BAD_CALL;
+    return crz_call(copy, sizeof copy, NULL, 0, answer, sizeof answer) == CRZ_NUMBER_BAD_CALL;
 }
 
 static int read_valid(const char *path, uint8_t *image)
@@ -58,11 +58,11 @@ static enum status make_call(const struct store *store, uint8_t *image, const ui
 {
     uint8_t answer[CRZ_ANSWER_LENGTH];
     uint32_t number = crz_call(image, CRZ_IMAGE_LENGTH, call, CRZ_CALL_LENGTH, answer, sizeof answer);
-    if (number == CRZ_ACCEPTED && store_replace(store, image) != 0)
+    if (number == CRZ_NUMBER_ACCEPTED && store_replace(store, image) != 0)
         return BAD_USE;
     print_answer(number, answer);
     fflush(stdout);
-    return number == CRZ_ACCEPTED ? DONE : REFUSED;
+    return number == CRZ_NUMBER_ACCEPTED ? DONE : REFUSED;
 }
 
 static enum status new_zone(const char *path)
@@ -108,7 +108,8 @@ static int split(char *line, char **words)
 {
     int count = 0;
     char *rest = NULL;
-    for (char *word = strtok_r(line, " \t\r", &rest); word != NULL && count < MOST_WORDS; word = strtok_r(NULL, " \t\r", &rest))
+    for (char *word = strtok_r(line, " \t\r", &rest); word != NULL && count < MOST_WORDS;
+         word = strtok_r(NULL, " \t\r", &rest))
         words[count++] = word;
     return count;
 }
@@ -131,7 +132,8 @@ static int grow(struct script *script)
     return 0;
 }
 
-/* One line into the script. A remark or an empty line adds nothing. Returns -1 with a message where the line is no call. */
+/* One line into the script. A remark or an empty line adds nothing. Returns -1 with a message where the line is no
+ * call. */
 static int add_line(struct script *script, char *line, char *message, size_t length)
 {
     char *words[MOST_WORDS];
@@ -149,7 +151,8 @@ static int add_line(struct script *script, char *line, char *message, size_t len
     return call_from_words(script->calls[n], words, count, message, length);
 }
 
-/* Bytes of the next line without its end, one past the longest at most, so that a longer line shows; -1 where there is none. */
+/* Bytes of the next line without its end, one past the longest at most, so that a longer line shows; -1 where there is
+ * none. */
 static int read_line(FILE *file, char line[LONGEST_LINE + 2])
 {
     int length = 0, c = getc(file);

@@ -63,7 +63,8 @@ int store_open(struct store *store, const char *name)
     if (path == NULL)
         return trouble(name, "cannot open");
     char *lock_path = joined(path, strlen(path), ".lock");
-    *store = (struct store){.path = path, .next = joined(path, strlen(path), ".next"), .folder = folder_of(path), .lock = -1};
+    *store = (struct store){
+        .path = path, .next = joined(path, strlen(path), ".next"), .folder = folder_of(path), .lock = -1};
     if (lock_path == NULL || store->next == NULL || store->folder == NULL)
         trouble(path, "no memory");
     else
@@ -99,7 +100,8 @@ static int write_whole(int file, const uint8_t *bytes, size_t length)
     return 0;
 }
 
-/* A file with the old one's mode before it has a byte, so that nobody reads more than before. `old` is NULL for a new zone. */
+/* A file with the old one's mode before it has a byte, so that nobody reads more than before. `old` is NULL for a new
+ * zone. */
 static int open_next(const struct store *store, const struct stat *old)
 {
     unlink(store->next); /* what a kill has left */

@@ -4,7 +4,7 @@
 #include <stdlib.h>
 #include <string.h>
 
-#include "bytes.h"
+#include "../include/crz_records.h"
 
 struct field {
     const char *word;
@@ -37,21 +37,21 @@ struct kind {
 };
 
 static const struct kind kinds[] = {
-    {"pay-in", CRZ_PAY_IN, F(ACCOUNT) | F(FEN)},
-    {"take-out", CRZ_TAKE_OUT, F(ACCOUNT) | F(FEN)},
-    {"register", CRZ_REGISTER, BY_PARTY | F(KILOGRAMS)},
-    {"list", CRZ_LIST, BY_PARTY | F(CONTRACT) | F(DAYS) | F(BASIS)},
-    {"withdraw-listing", CRZ_WITHDRAW_LISTING, BY_PARTY},
-    {"limit-bid", CRZ_LIMIT_BID, BY_PARTY | F(YUAN)},
-    {"market-bid", CRZ_MARKET_BID, BY_PARTY},
-    {"withdraw-bid", CRZ_WITHDRAW_BID, BY_PARTY},
-    {"quote", CRZ_QUOTE, F(CONTRACT) | F(YUAN)},
-    {"lodge", CRZ_LODGE, BY_PARTY},
-    {"morning-close", CRZ_MORNING_CLOSE, 0},
-    {"first-payment", CRZ_FIRST_PAYMENT, BY_PARTY},
-    {"invoice", CRZ_INVOICE, BY_PARTY | F(FEN)},
-    {"confirm", CRZ_CONFIRM, BY_PARTY},
-    {"day-close", CRZ_DAY_CLOSE, 0},
+    {"pay-in", CRZ_KIND_PAY_IN, F(ACCOUNT) | F(FEN)},
+    {"take-out", CRZ_KIND_TAKE_OUT, F(ACCOUNT) | F(FEN)},
+    {"register", CRZ_KIND_REGISTER, BY_PARTY | F(KILOGRAMS)},
+    {"list", CRZ_KIND_LIST, BY_PARTY | F(CONTRACT) | F(DAYS) | F(BASIS)},
+    {"withdraw-listing", CRZ_KIND_WITHDRAW_LISTING, BY_PARTY},
+    {"limit-bid", CRZ_KIND_LIMIT_BID, BY_PARTY | F(YUAN)},
+    {"market-bid", CRZ_KIND_MARKET_BID, BY_PARTY},
+    {"withdraw-bid", CRZ_KIND_WITHDRAW_BID, BY_PARTY},
+    {"quote", CRZ_KIND_QUOTE, F(CONTRACT) | F(YUAN)},
+    {"lodge", CRZ_KIND_LODGE, BY_PARTY},
+    {"morning-close", CRZ_KIND_MORNING_CLOSE, 0},
+    {"first-payment", CRZ_KIND_FIRST_PAYMENT, BY_PARTY},
+    {"invoice", CRZ_KIND_INVOICE, BY_PARTY | F(FEN)},
+    {"confirm", CRZ_KIND_CONFIRM, BY_PARTY},
+    {"day-close", CRZ_KIND_DAY_CLOSE, 0},
 };
 
 static const struct kind *kind_named(const char *word)
@@ -89,7 +89,7 @@ static int put_field(uint8_t *call, const struct field *field, const char *word,
         snprintf(message, length, "%s: %s does not fit its field", field->word, word);
         return -1;
     }
-    put_number(call + field->offset, field->width, (uint64_t)number);
+    crz_put_bytes(call + field->offset, field->width, (uint64_t)number);
     return 0;
 }
 
@@ -99,7 +99,9 @@ static int put_fields(uint8_t *call, const struct kind *kind, char **words, int 
     for (int i = 0; i < count; i += 2) {
         unsigned f = field_named(words[i]);
         if (f == FIELDS || !(left & F(f))) {
-            const char *fault = f == FIELDS ? "is no field" : kind->takes & F(f) ? "is there twice" : "is not one of its fields";
+            const char *fault = f == FIELDS          ? "is no field"
+                                : kind->takes & F(f) ? "is there twice"
+                                                     : "is not one of its fields";
             snprintf(message, length, "%s: '%s' %s", kind->word, words[i], fault);
             return -1;
         }

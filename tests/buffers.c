@@ -1,6 +1,6 @@
 /*
- * Buffers of the named lengths and those beside them in every combination, length 0 at a null pointer: what is returned, what is
- * written, and that no byte outside a buffer changes. The last line is 'N passed, M failed'.
+ * Buffers of the named lengths and those beside them in every combination, length 0 at a null pointer: what is
+ * returned, what is written, and that no byte outside a buffer changes. The last line is 'N passed, M failed'.
  */
 #include "../include/crz.h"
 
@@ -38,10 +38,10 @@ static int guarded(const uint8_t *buffer, size_t len)
 static uint32_t number(size_t image_len, size_t call_len, size_t answer_len)
 {
     if (answer_len < CRZ_ANSWER_LENGTH)
-        return CRZ_SHORT_ANSWER;
+        return CRZ_NUMBER_SHORT_ANSWER;
     if (image_len != CRZ_IMAGE_LENGTH)
-        return CRZ_BAD_IMAGE;
-    return call_len == CRZ_CALL_LENGTH ? CRZ_ACCEPTED : CRZ_BAD_CALL;
+        return CRZ_NUMBER_BAD_IMAGE;
+    return call_len == CRZ_CALL_LENGTH ? CRZ_NUMBER_ACCEPTED : CRZ_NUMBER_BAD_CALL;
 }
 
 /* a fresh image, cut, or lengthened with zeros */
@@ -59,7 +59,7 @@ static void lend_call(size_t len)
     memset(call, 0xc3, sizeof call);
     memset(call + GUARD, 0, len);
     if (len > CRZ_CALL_AMOUNT) {
-        call[GUARD + CRZ_CALL_KIND] = CRZ_PAY_IN;
+        call[GUARD + CRZ_CALL_KIND] = CRZ_KIND_PAY_IN;
         call[GUARD + CRZ_CALL_ACCOUNT] = 1;
         call[GUARD + CRZ_CALL_AMOUNT] = 7;
     }
@@ -76,7 +76,8 @@ static void lend(size_t image_len, size_t call_len, size_t answer_len)
 /* the total, and no entry */
 static int paid_in(const uint8_t *out)
 {
-    return out[CRZ_ANSWER_TOTAL] == 7 && all(out + CRZ_FIRST_ENTRY, CRZ_ANSWER_LENGTH - CRZ_FIRST_ENTRY, 0) && image[GUARD + CRZ_IMAGE_TOTAL] == 7;
+    return out[CRZ_ANSWER_TOTAL] == 7 && all(out + CRZ_ANSWER_ENTRIES, CRZ_ANSWER_LENGTH - CRZ_ANSWER_ENTRIES, 0)
+           && image[GUARD + CRZ_IMAGE_TOTAL] == 7;
 }
 
 static void lengths(size_t image_len, size_t call_len, size_t answer_len)
@@ -84,19 +85,24 @@ static void lengths(size_t image_len, size_t call_len, size_t answer_len)
     uint32_t want = number(image_len, call_len, answer_len), got;
     uint8_t *out = answer + GUARD;
     lend(image_len, call_len, answer_len);
-    got = crz_call(image_len ? image + GUARD : NULL, image_len, call_len ? call + GUARD : NULL, call_len, answer_len ? out : NULL, answer_len);
+    got = crz_call(image_len ? image + GUARD : NULL, image_len, call_len ? call + GUARD : NULL, call_len,
+        answer_len ? out : NULL, answer_len);
     expect(got == want, "the number", image_len, call_len, answer_len);
-    expect(guarded(image, image_len) && guarded(call, call_len) && guarded(answer, answer_len), "guard bytes", image_len, call_len, answer_len);
-    if (want != CRZ_ACCEPTED)
-        expect(memcmp(before, image + GUARD, image_len) == 0, "the image of a refusal", image_len, call_len, answer_len);
-    if (want == CRZ_SHORT_ANSWER)
+    expect(guarded(image, image_len) && guarded(call, call_len) && guarded(answer, answer_len), "guard bytes",
+        image_len, call_len, answer_len);
+    if (want != CRZ_NUMBER_ACCEPTED)
+        expect(
+            memcmp(before, image + GUARD, image_len) == 0, "the image of a refusal", image_len, call_len, answer_len);
+    if (want == CRZ_NUMBER_SHORT_ANSWER)
         expect(all(out, answer_len, 0xa5), "nothing is written", image_len, call_len, answer_len);
-    else if (want != CRZ_ACCEPTED)
-        expect(out[0] == want && all(out + 1, CRZ_ANSWER_LENGTH - 1, 0), "the answer of a refusal", image_len, call_len, answer_len);
+    else if (want != CRZ_NUMBER_ACCEPTED)
+        expect(out[0] == want && all(out + 1, CRZ_ANSWER_LENGTH - 1, 0), "the answer of a refusal", image_len, call_len,
+            answer_len);
     else
         expect(paid_in(out), "the accepted call", image_len, call_len, answer_len);
-    if (want != CRZ_SHORT_ANSWER)
-        expect(all(out + CRZ_ANSWER_LENGTH, answer_len - CRZ_ANSWER_LENGTH, 0xa5), "bytes past 1,040", image_len, call_len, answer_len);
+    if (want != CRZ_NUMBER_SHORT_ANSWER)
+        expect(all(out + CRZ_ANSWER_LENGTH, answer_len - CRZ_ANSWER_LENGTH, 0xa5), "bytes past 1,040", image_len,
+            call_len, answer_len);
 }
 
 static void fresh(size_t len)
@@ -112,10 +118,8 @@ static void fresh(size_t len)
 }
 
 /* no byte, one byte, and each length that the interface names with the lengths beside it */
-static const size_t edges[] = {
-    0, 1, CRZ_CALL_LENGTH - 1, CRZ_CALL_LENGTH, CRZ_CALL_LENGTH + 1, CRZ_ANSWER_LENGTH - 1, CRZ_ANSWER_LENGTH, CRZ_ANSWER_LENGTH + 1,
-    CRZ_IMAGE_LENGTH - 1, CRZ_IMAGE_LENGTH, CRZ_IMAGE_LENGTH + 1
-};
+static const size_t edges[] = {0, 1, CRZ_CALL_LENGTH - 1, CRZ_CALL_LENGTH, CRZ_CALL_LENGTH + 1, CRZ_ANSWER_LENGTH - 1,
+    CRZ_ANSWER_LENGTH, CRZ_ANSWER_LENGTH + 1, CRZ_IMAGE_LENGTH - 1, CRZ_IMAGE_LENGTH, CRZ_IMAGE_LENGTH + 1};
 
 enum { EDGES = sizeof edges / sizeof edges[0] };
 

@@ -1,9 +1,9 @@
 /*
- * The history table of document 01 beside the runs of tests/vectors: fed with call records and answers alone, and after every call held
- * against the image: the books of each account, its frozen money, the owner of each receipt, and the buyer of each strike.
- * The last line is 'N passed, M failed'; each call with its four statements counts once.
+ * The history table of document 01 beside the runs of tests/vectors: fed with call records and answers alone, and after
+ * every call held against the image: the books of each account, its frozen money, the owner of each receipt, and the
+ * buyer of each strike. The last line is 'N passed, M failed'; each call with its four statements counts once.
  */
-#include "../include/crz.h"
+#include "../include/crz_records.h"
 #include "each_file.h"
 
 #include <stdio.h>
@@ -18,28 +18,21 @@ struct past {
     uint64_t full, since;               /* number of the latest 8; numbers of 9s and 11s since */
 };
 
-static struct past lots[CRZ_RECEIPTS + 1];
+static struct past lots[CRZ_RECEIPT_COUNT + 1];
 static uint64_t pay_ins[256], take_outs[256], sent[256], got[256];
 static uint8_t image[CRZ_IMAGE_LENGTH], answer[CRZ_ANSWER_LENGTH], call[CRZ_CALL_LENGTH];
 static char line[1 << 16];
-
-static uint64_t number_at(const uint8_t *p, int bytes)
-{
-    uint64_t n = 0;
-    while (bytes--)
-        n = n * 256 + p[bytes];
-    return n;
-}
 
 /* an outcome 6 strikes its own caller, or by a quote the account whose kind 6 stands as the lot's last entry */
 static int fair(const struct past *p, unsigned outcome, unsigned from)
 {
     unsigned kind = call[CRZ_CALL_KIND];
-    if (outcome != CRZ_STRUCK)
+    if (outcome != CRZ_OUTCOME_STRUCK)
         return 1;
-    if (kind == CRZ_LIMIT_BID || kind == CRZ_MARKET_BID)
+    if (kind == CRZ_KIND_LIMIT_BID || kind == CRZ_KIND_MARKET_BID)
         return call[CRZ_CALL_ACCOUNT] == from;
-    return kind == CRZ_QUOTE && p->last == CRZ_BID_STANDS && p->from == from && p->kind == CRZ_LIMIT_BID && p->account == from;
+    return kind == CRZ_KIND_QUOTE && p->last == CRZ_OUTCOME_BID_STANDS && p->from == from
+           && p->kind == CRZ_KIND_LIMIT_BID && p->account == from;
 }
 
 static void transfer(unsigned from, unsigned to, uint64_t fen)
@@ -52,32 +45,32 @@ static int enter(const uint8_t *e)
 {
     struct past *p = &lots[e[CRZ_ENTRY_LOT]];
     unsigned outcome = e[CRZ_ENTRY_OUTCOME], from = e[CRZ_ENTRY_FROM];
-    uint64_t n = number_at(e + CRZ_ENTRY_NUMBER, 4);
+    uint64_t n = crz_get_u32(e + CRZ_ENTRY_NUMBER);
     int ok = fair(p, outcome, from);
     p->last = outcome;
     p->from = from;
     p->kind = call[CRZ_CALL_KIND];
     p->account = call[CRZ_CALL_ACCOUNT];
     switch (outcome) {
-    case CRZ_REGISTERED:
+    case CRZ_OUTCOME_REGISTERED:
         p->registrant = from;
         break;
-    case CRZ_BID_STANDS:
-    case CRZ_STRUCK:
+    case CRZ_OUTCOME_BID_STANDS:
+    case CRZ_OUTCOME_STRUCK:
         p->bidder = from;
         break;
-    case CRZ_SETTLED:
+    case CRZ_OUTCOME_SETTLED:
         p->buyer = from;
         p->full = n;
         p->since = 0;
         break;
-    case CRZ_FIRST_PAID:
-    case CRZ_PART_PAID:
+    case CRZ_OUTCOME_FIRST_PAID:
+    case CRZ_OUTCOME_PART_PAID:
         p->since += n;
         transfer(from, e[CRZ_ENTRY_TO], n);
         break;
-    case CRZ_BUYER_DEFAULT:
-    case CRZ_PENALTY:
+    case CRZ_OUTCOME_BUYER_DEFAULT:
+    case CRZ_OUTCOME_PENALTY:
         transfer(from, e[CRZ_ENTRY_TO], n);
         break;
     default:
@@ -90,12 +83,12 @@ static int enter(const uint8_t *e)
 static int feed(void)
 {
     unsigned account = call[CRZ_CALL_ACCOUNT];
-    uint64_t count = number_at(answer + CRZ_ANSWER_COUNT, 2), at = number_at(answer + CRZ_ANSWER_OFFSET, 4), i;
+    uint64_t count = crz_get_u16(answer + CRZ_ANSWER_COUNT), at = crz_get_u32(answer + CRZ_ANSWER_OFFSET), i;
     int ok = 1;
-    if (call[CRZ_CALL_KIND] == CRZ_PAY_IN)
-        pay_ins[account] += number_at(call + CRZ_CALL_AMOUNT, 8);
-    if (call[CRZ_CALL_KIND] == CRZ_TAKE_OUT)
-        take_outs[account] += number_at(call + CRZ_CALL_AMOUNT, 8);
+    if (call[CRZ_CALL_KIND] == CRZ_KIND_PAY_IN)
+        pay_ins[account] += crz_get_u64(call + CRZ_CALL_AMOUNT);
+    if (call[CRZ_CALL_KIND] == CRZ_KIND_TAKE_OUT)
+        take_outs[account] += crz_get_u64(call + CRZ_CALL_AMOUNT);
     for (i = 0; i < count; i++)
         ok &= enter(answer + at + CRZ_ENTRY_LENGTH * i);
     return ok;
@@ -105,11 +98,11 @@ static int feed(void)
 static void held(uint64_t *sums)
 {
     int k;
-    for (k = 1; k <= CRZ_RECEIPTS; k++) {
+    for (k = 1; k <= CRZ_RECEIPT_COUNT; k++) {
         const struct past *p = &lots[k];
-        if (p->last == CRZ_BID_STANDS || p->last == CRZ_STRUCK || p->last == CRZ_LODGED)
+        if (p->last == CRZ_OUTCOME_BID_STANDS || p->last == CRZ_OUTCOME_STRUCK || p->last == CRZ_OUTCOME_LODGED)
             sums[p->bidder] += 5000000;
-        else if (p->last >= CRZ_SETTLED && p->last <= CRZ_PART_PAID)
+        else if (p->last >= CRZ_OUTCOME_SETTLED && p->last <= CRZ_OUTCOME_PART_PAID)
             sums[p->buyer] += p->full - p->since;
     }
 }
@@ -117,17 +110,15 @@ static void held(uint64_t *sums)
 static int agrees(void)
 {
     uint64_t sums[256] = {0};
-    int x, k;
+    uint32_t x, k;
     held(sums);
-    for (x = 1; x <= CRZ_ACCOUNTS; x++) {
-        const uint8_t *a = image + CRZ_IMAGE_ACCOUNTS + CRZ_ACCOUNT_LENGTH * (x - 1);
-        uint64_t has_free = number_at(a + CRZ_ACCOUNT_FREE, 8), has_frozen = number_at(a + CRZ_ACCOUNT_FROZEN, 8);
-        if (has_free + has_frozen + take_outs[x] + sent[x] != pay_ins[x] + got[x] || has_frozen != sums[x])
+    for (x = 1; x <= CRZ_ACCOUNT_COUNT; x++) {
+        struct crz_account_fields has = crz_get_account(image, x);
+        if (has.free + has.frozen + take_outs[x] + sent[x] != pay_ins[x] + got[x] || has.frozen != sums[x])
             return 0;
     }
-    for (k = 1; k <= CRZ_RECEIPTS; k++) {
-        unsigned owner = image[CRZ_IMAGE_RECEIPTS + CRZ_RECEIPT_LENGTH * (k - 1) + CRZ_RECEIPT_OWNER];
-        if (owner != (lots[k].buyer ? lots[k].buyer : lots[k].registrant))
+    for (k = 1; k <= CRZ_RECEIPT_COUNT; k++) {
+        if (crz_get_receipt(image, k).owner != (lots[k].buyer ? lots[k].buyer : lots[k].registrant))
             return 0;
     }
     return 1;
@@ -169,7 +160,7 @@ static void run(const char *path, unsigned long *passed, unsigned long *failed)
         if (line[0] != 'C')
             continue;
         read_call(line + 2);
-        if (crz_call(image, sizeof image, call, sizeof call, answer, sizeof answer) == CRZ_ACCEPTED)
+        if (crz_call(image, sizeof image, call, sizeof call, answer, sizeof answer) == CRZ_NUMBER_ACCEPTED)
             ok = feed();
         if (ok && agrees())
             good++;

@@ -1,6 +1,7 @@
 /*
- * The stack that the entries take, over the calls of the vectors: each call is made on a thread whose stack was painted before, and what
- * is painted no more was used. It is held to the bound that crz.h states. The last line is 'N passed, M failed'.
+ * The stack that the entries take, over the calls of the vectors: each call is made on a thread whose stack was painted
+ * before, and what is painted no more was used. It is held to the bound that crz.h states. The last line is 'N passed,
+ * M failed'.
  */
 #define _XOPEN_SOURCE 700
 
@@ -41,8 +42,8 @@ static size_t used(void *(*work)(void *))
     pthread_t thread;
     size_t i = 0;
     memset(stack, PAINT, STACK);
-    if (pthread_attr_init(&attr) || pthread_attr_setstack(&attr, stack, STACK) || pthread_create(&thread, &attr, work, NULL)
-        || pthread_join(thread, NULL))
+    if (pthread_attr_init(&attr) || pthread_attr_setstack(&attr, stack, STACK)
+        || pthread_create(&thread, &attr, work, NULL) || pthread_join(thread, NULL))
         exit(2);
     while (i < STACK && stack[i] == PAINT)
         i++;

@@ -1,6 +1,6 @@
 /*
- * The vectors of tests/vectors through the C boundary: number, image and answer of every call, with guard bytes around each buffer.
- * The last line is 'N passed, M failed'; a file counts its calls.
+ * The vectors of tests/vectors through the C boundary: number, image and answer of every call, with guard bytes around
+ * each buffer. The last line is 'N passed, M failed'; a file counts its calls.
  */
 #include "../include/crz.h"
 #include "each_file.h"
@@ -95,8 +95,9 @@ static int agrees(FILE *f)
         return 0;
     if (strncmp(line + 2, "same", 4) != 0)
         patch(line + 2, want_image);
-    return got == want && memcmp(want_image, body(&image), image_len) == 0 && memcmp(want_answer, body(&answer), answer_len) == 0
-        && guarded(&image) && guarded(&call) && guarded(&answer);
+    return got == want && memcmp(want_image, body(&image), image_len) == 0
+           && memcmp(want_answer, body(&answer), answer_len) == 0 && guarded(&image) && guarded(&call)
+           && guarded(&answer);
 }
 
 static void run(const char *path, unsigned long *passed, unsigned long *failed)
