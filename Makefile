@@ -10,7 +10,7 @@ WARNINGS = -std=c99 -Wall -Wextra -Wpedantic -Wconversion
 .PHONY: run lib host install bench test audit
 
 run: host
-	@rm -f target/day.crz target/day.crz.lock target/day.crz.next
+	@rm -f target/day.crz target/day.crz-journal
 	@target/crz new target/day.crz
 	@target/crz play target/day.crz host/day.txt
 	@echo
@@ -21,7 +21,7 @@ lib:
 	rt staticlib crz
 
 host: lib
-	$(CC) $(WARNINGS) $(CFLAGS) -o target/crz host/*.c target/staticlib/libcrz.a
+	$(CC) $(WARNINGS) $(CFLAGS) -o target/crz host/*.c target/staticlib/libcrz.a -lsqlite3 -lcrypto
 
 install: host
 	install -d $(DESTDIR)$(PREFIX)/include $(DESTDIR)$(PREFIX)/lib/pkgconfig $(DESTDIR)$(PREFIX)/bin

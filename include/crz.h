@@ -82,7 +82,7 @@ enum crz_number {
     CRZ_NUMBER_ACCEPTED = 0,
     CRZ_NUMBER_SHORT_ANSWER = 1,    /* answer buffer under 1,040 bytes; nothing is written */
     CRZ_NUMBER_BAD_IMAGE = 2,       /* image not 5,696 bytes or not valid */
-    CRZ_NUMBER_BAD_CALL = 3,        /* call record of another length, unknown kind, a field filled that the kind does not use */
+    CRZ_NUMBER_BAD_CALL = 3,        /* call record not of 24 bytes, of no known kind, or with a field too many */
     CRZ_NUMBER_OUT_OF_RANGE = 4,    /* field out of range */
     CRZ_NUMBER_WRONG_PHASE = 5,     /* morning close in an afternoon; day close in a morning or on day 30,000 */
     CRZ_NUMBER_WRONG_STATE = 6,     /* receipt or lot in another state; invoice already pending; nothing to confirm */

@@ -112,8 +112,8 @@ static inline struct crz_call_fields crz_get_call(const uint8_t call[CRZ_CALL_LE
 }
 
 /* A call of the kinds that name an account, a receipt, both or neither, and an amount or a price or none. */
-static inline void crz_put_plain_call(uint8_t call[CRZ_CALL_LENGTH], enum crz_kind kind, uint32_t account,
-                                      uint32_t receipt, uint64_t amount)
+static inline void crz_put_plain_call(
+    uint8_t call[CRZ_CALL_LENGTH], enum crz_kind kind, uint32_t account, uint32_t receipt, uint64_t amount)
 {
     memset(call, 0, CRZ_CALL_LENGTH);
     call[CRZ_CALL_KIND] = (uint8_t)kind;
@@ -132,15 +132,15 @@ static inline void crz_put_take_out(uint8_t call[CRZ_CALL_LENGTH], uint32_t acco
     crz_put_plain_call(call, CRZ_KIND_TAKE_OUT, account, 0, fen);
 }
 
-static inline void crz_put_register(uint8_t call[CRZ_CALL_LENGTH], uint32_t account, uint32_t receipt,
-                                    uint32_t kilograms)
+static inline void crz_put_register(
+    uint8_t call[CRZ_CALL_LENGTH], uint32_t account, uint32_t receipt, uint32_t kilograms)
 {
     crz_put_plain_call(call, CRZ_KIND_REGISTER, account, receipt, 0);
     crz_put_u32(call + CRZ_CALL_WEIGHT, kilograms);
 }
 
-static inline void crz_put_list(uint8_t call[CRZ_CALL_LENGTH], uint32_t account, uint32_t receipt, uint32_t contract,
-                                uint32_t days, int32_t basis)
+static inline void crz_put_list(
+    uint8_t call[CRZ_CALL_LENGTH], uint32_t account, uint32_t receipt, uint32_t contract, uint32_t days, int32_t basis)
 {
     crz_put_plain_call(call, CRZ_KIND_LIST, account, receipt, 0);
     call[CRZ_CALL_CONTRACT] = crz_one_byte(contract);
@@ -361,14 +361,10 @@ static inline uint64_t crz_held_money(const struct crz_receipt_fields *receipt)
     switch (receipt->state) {
     case CRZ_STATE_BID_STANDS:
     case CRZ_STATE_STRUCK:
-    case CRZ_STATE_LODGED:
-        return CRZ_DEPOSIT;
-    case CRZ_STATE_SETTLED:
-        return crz_full_payment(receipt);
-    case CRZ_STATE_FIRST_PAID:
-        return crz_rest_payment(receipt) - receipt->paid;
-    default:
-        return 0;
+    case CRZ_STATE_LODGED: return CRZ_DEPOSIT;
+    case CRZ_STATE_SETTLED: return crz_full_payment(receipt);
+    case CRZ_STATE_FIRST_PAID: return crz_rest_payment(receipt) - receipt->paid;
+    default: return 0;
     }
 }
 
