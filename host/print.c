@@ -130,18 +130,24 @@ static void print_accounts(const uint8_t *image)
     }
 }
 
-static void print_terms(const struct crz_receipt_fields *r)
+static void print_parties(const struct crz_receipt_fields *r)
 {
     if (r->seller != 0)
         printf(", seller %u", r->seller);
     if (r->buyer != 0)
         printf(", buyer %u", r->buyer);
-    if (r->contract != 0)
-        printf(", contract %u, days %u, basis %s yuan per tonne", r->contract, r->days, grouped_signed(r->basis).text);
-    if (r->price != 0)
-        printf(", price %s yuan per tonne", grouped(r->price).text);
     if (r->due != 0)
         printf(", due day %s", grouped(r->due).text);
+    putchar('\n');
+}
+
+static void print_terms(const struct crz_receipt_fields *r)
+{
+    if (r->contract == 0)
+        return;
+    printf("      contract %u, days %u, basis %s yuan per tonne", r->contract, r->days, grouped_signed(r->basis).text);
+    if (r->price != 0)
+        printf(", price %s yuan per tonne", grouped(r->price).text);
     putchar('\n');
 }
 
@@ -166,6 +172,7 @@ static void print_lots(const uint8_t *image, uint32_t state)
         if (r.owner == 0 || r.state != state)
             continue;
         printf("  lot %u: %s, owner %u, %s kilograms", n, state_words[state], r.owner, grouped(r.weight).text);
+        print_parties(&r);
         print_terms(&r);
         print_money(&r);
     }

@@ -26,15 +26,13 @@ struct movement {
 
 static void print_movement(const struct movement *m)
 {
-    char what[96];
+    char what[96], fen[40];
     if (m->lot == 0)
         snprintf(what, sizeof what, "%s", m->what);
     else
         snprintf(what, sizeof what, "%s, lot %u, %s account %u", m->what, m->lot, m->in ? "from" : "to", m->other);
-    printf("  %-8" PRIu64 " %s  %-40s %21s", m->line->sequence, m->line->time, what, m->in ? grouped(m->fen).text : "");
-    if (!m->in)
-        printf(" %21s", grouped(m->fen).text);
-    putchar('\n');
+    snprintf(fen, sizeof fen, "%c%s", m->in ? '+' : '-', grouped(m->fen).text);
+    printf("  %-8" PRIu64 " %s  %-40s %22s\n", m->line->sequence, m->line->time, what, fen);
 }
 
 static void json_movement(const struct movement *m)
@@ -161,7 +159,7 @@ static void print_head(const struct statement *s, const struct newest *newest)
 {
     printf("account %u after sequence %" PRIu64 ", day %s, %s\n", s->account, newest->last.sequence,
         grouped(crz_get_day(newest->kept.image)).text, phase_words(crz_get_phase(newest->kept.image)));
-    printf("  %-8s %-24s  %-40s %21s %21s\n", "sequence", "time (UTC)", "what", "fen in", "fen out");
+    printf("  %-8s %-24s  %-40s %22s\n", "sequence", "time (UTC)", "what", "fen");
 }
 
 enum status print_statement(struct store *store, const struct newest *newest, uint32_t account, int json)

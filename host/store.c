@@ -36,7 +36,7 @@ static const char *const sql[STATEMENTS] = {
     [READ_ZONE] = "SELECT image, last_hash FROM zone WHERE place = 1",
     [READ_NEWEST] = "SELECT " COLUMNS " FROM journal ORDER BY sequence DESC LIMIT 2",
     [READ_LINES] = "SELECT " COLUMNS " FROM journal WHERE sequence BETWEEN ?1 AND ?2 ORDER BY sequence LIMIT ?3",
-    [ADD_LINE] = "INSERT INTO journal (" COLUMNS ") VALUES (?1, ?2, ?3, ?4, ?5, ?6, ?7, ?8, ?9)",
+    [ADD_LINE] = "INSERT INTO journal (" COLUMNS ") VALUES (?, ?, ?, ?, ?, ?, ?, ?, ?)",
     [PUT_ZONE] = "UPDATE zone SET image = ?1, last_hash = ?2 WHERE place = 1",
 };
 
@@ -248,7 +248,7 @@ static int take_optional(sqlite3_stmt *row, struct line *line)
 static int take_line(struct store *store, sqlite3_stmt *row, struct line *line)
 {
     uint64_t number = 0;
-    char what[64];
+    char what[96];
     memset(line, 0, sizeof *line);
     int bad = take_number(row, 0, &line->sequence) != 0;
     bad |= take_text(row, 1, line->time, TIME_LENGTH) != 0 || take_text(row, 2, line->entry, ENTRY_LENGTH) != 0;
@@ -259,7 +259,8 @@ static int take_line(struct store *store, sqlite3_stmt *row, struct line *line)
     line->number = (uint32_t)number;
     if (!bad)
         return 0;
-    snprintf(what, sizeof what, "line %llu of the journal is none", (unsigned long long)line->sequence);
+    snprintf(what, sizeof what, "line %llu of the journal has a field of another type or length",
+        (unsigned long long)line->sequence);
     return damaged(store, what);
 }
 
@@ -276,7 +277,7 @@ static int read_zone(struct store *store, struct kept *kept)
         failed_at(store, code);
     else if (take(row, 0, SQLITE_BLOB, kept->image, CRZ_IMAGE_LENGTH, &length) != 0 || length != CRZ_IMAGE_LENGTH
              || take_hash(row, 1, &kept->last_hash) != 0)
-        damaged(store, "its image is none");
+        damaged(store, "its image has another type or length");
     else
         bad = 0;
     sqlite3_reset(row);

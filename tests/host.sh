@@ -251,4 +251,18 @@ ends 3 "is no raw image" import long.zone long
 { printf '\377'; tail -c +2 day.image; } >damaged
 ends 3 "is no valid image of a zone; no zone was made" import damaged.zone damaged
 holds "a bad image makes no zone" test ! -e short.zone -a ! -e long.zone -a ! -e damaged.zone
+
+# ── What the documents show ─────────────────────────────────────────────────────────────────────────
+mkdir readme guide guide/target
+(cd readme && python3 "$here/tests/host_samples.py" "$crz" "$here/README.md")
+holds "the README's session" test $? -eq 0
+"$crz" new guide/target/day.crz >/dev/null && "$crz" play guide/target/day.crz "$here/host/day.txt" >/dev/null
+(cd guide && python3 "$here/tests/host_samples.py" "$crz" "$here/docs/GUIDE.md")
+holds "the guide's session" test $? -eq 0
+for command in new call play show log verify statement due import export; do
+    holds "the man page has $command" grep -q "fBcrz $command" "$here/host/crz.1"
+done
+if command -v groff >/dev/null 2>&1; then
+    holds "the man page is well formed" test -z "$(groff -man -ww -Tutf8 "$here/host/crz.1" 2>&1 >/dev/null)"
+fi
 finish

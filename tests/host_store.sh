@@ -188,34 +188,34 @@ holds "ten programs: every call has its own number" test "$(cat said.* | grep -o
 whole shared
 holds "ten programs: journal and image agree" test $? -eq 0
 
-# ── Files that vanish while a script runs ───────────────────────────────────────────────────────────
-"$crz" new vanish >/dev/null
+# ── Files that gone while a script runs ───────────────────────────────────────────────────────────
+"$crz" new gone >/dev/null
 script 300 >three_hundred
-"$crz" play vanish three_hundred >said 2>&1 &
+"$crz" play gone three_hundred >said 2>&1 &
 player=$!
 for _ in $(seq 2000); do
-    rm -f vanish-journal
+    rm -f gone-journal
     kill -0 "$player" 2>/dev/null || break
 done
 wait "$player"
-holds "SQLite's file removed: every accepted call is there" test "$(total vanish)" -eq "$(grep -c '^accepted' said)"
-whole vanish
+holds "SQLite's file removed: every accepted call is there" test "$(total gone)" -eq "$(grep -c '^accepted' said)"
+whole gone
 holds "SQLite's file removed: journal and image agree" test $? -eq 0
 script 20000 >many
 : >said
-"$crz" play vanish many >said 2>&1 &
+"$crz" play gone many >said 2>&1 &
 player=$!
 for _ in $(seq 500); do [ -s said ] && break; sleep 0.01; done
-mv vanish vanished
+mv gone away
 wait "$player"
 holds "a zone moved away ends its script with $?" test $? -eq 3
 holds "a zone moved away is told" grep -qF "the file was moved or replaced while in use" said
-holds "a zone moved away has what was accepted" test "$(total vanished)" -eq $((300 + $(grep -c '^accepted' said)))
+holds "a zone moved away has what was accepted" test "$(total away)" -eq $((300 + $(grep -c '^accepted' said)))
 
 # ── Other users ─────────────────────────────────────────────────────────────────────────────────────
 if [ "$(id -u)" -eq 0 ] && as_nobody true 2>/dev/null; then
-    mkdir -m 777 open && mkdir -m 755 shut && mkdir blind
-    chown 65534:65534 blind
+    mkdir -m 777 open && mkdir -m 755 shut && mkdir unread
+    chown 65534:65534 unread
     (cd open && as_nobody "$crz" new user >/dev/null && chmod 666 user)
     ends 0 "accepted, sequence 1" call open/user pay-in account 1 fen 1
     holds "a zone keeps its owner" test "$(stat -c %u open/user)" -eq 65534
@@ -233,15 +233,15 @@ if [ "$(id -u)" -eq 0 ] && as_nobody true 2>/dev/null; then
     said=$(as_nobody "$crz" call shut/zone pay-in account 1 fen 1 2>&1)
     holds "a folder of another user ends with $?: $said" test $? -eq 3
     holds "a folder of another user: $said" grep -qF "its folder cannot be written" <<<"$said"
-    as_nobody "$crz" new blind/zone >/dev/null
-    chmod 333 blind
-    said=$(as_nobody "$crz" call blind/zone pay-in account 1 fen 1 2>&1)
+    as_nobody "$crz" new unread/zone >/dev/null
+    chmod 333 unread
+    said=$(as_nobody "$crz" call unread/zone pay-in account 1 fen 1 2>&1)
     holds "a folder that cannot be read ends with $?: $said" test $? -eq 3
     holds "a folder that cannot be read: $said" grep -qF "may not be read" <<<"$said"
-    said=$(as_nobody "$crz" new blind/other 2>&1)
-    holds "no new zone in a folder that cannot be read: $?" test $? -eq 3 -a ! -e blind/other
-    chmod 755 blind
-    holds "nothing was done there" test "$(total blind/zone)" -eq 0
+    said=$(as_nobody "$crz" new unread/other 2>&1)
+    holds "no new zone in a folder that cannot be read: $?" test $? -eq 3 -a ! -e unread/other
+    chmod 755 unread
+    holds "nothing was done there" test "$(total unread/zone)" -eq 0
 else
     echo "not root: two users and folders of others are not tried"
 fi
@@ -327,15 +327,15 @@ for round in $(seq 25); do
 done
 holds "the kills came in the middle of the script: $last" test "$last" -gt 0 -a "$last" -lt 500000
 for round in $(seq 20); do
-    "$crz" new "born.$round" >/dev/null 2>&1 &
+    "$crz" new "made.$round" >/dev/null 2>&1 &
     player=$!
     sleep "0.00$((RANDOM % 9 + 1))"
     kill -9 "$player" 2>/dev/null
     wait "$player" 2>/dev/null
-    [ ! -e "born.$round" ] || "$crz" verify "born.$round" >/dev/null
+    [ ! -e "made.$round" ] || "$crz" verify "made.$round" >/dev/null
     holds "a new zone is whole or not there" test $? -eq 0
 done
-holds "a killed 'new' leaves no other file" test -z "$(ls | grep 'born\.[0-9]*.\+' | grep -v 'born\.[0-9]*$')"
+holds "a killed 'new' leaves no other file" test -z "$(ls | grep 'made\.[0-9]*.\+' | grep -v 'made\.[0-9]*$')"
 
 # ── Syncs that fail ─────────────────────────────────────────────────────────────────────────────────
 if gcc -shared -fPIC -o failing.so "$here/tests/failing_sync.c" -ldl 2>/dev/null; then
@@ -413,7 +413,7 @@ caught "delete from journal where sequence = 34" \
 caught "update journal set entry = 'crz_other' where sequence = 6" "line 6 of the journal"
 caught "update journal set call = 5 where sequence = 20" "line 20 of the journal"
 caught "update zone set image = zeroblob(5696)" "every line is good, but the image is not the one after them"
-caught "update zone set image = cast(image as text)" "its image is none"
+caught "update zone set image = cast(image as text)" "its image has another type or length"
 caught "update zone set place = 2" "it has no image"
 caught "delete from zone" "damaged"
 cp good bad
