@@ -82,13 +82,13 @@ static const struct command *command_named(const char *word)
 
 static enum status no_command(const char *word)
 {
-    static const char *const others[] = {"help", "--help", "--version"};
     struct nearest nearest = nearest_to(word);
     char hint[64];
     for (size_t i = 0; i < COMMANDS; i++)
         nearest_try(&nearest, commands[i].word);
-    for (size_t i = 0; i < sizeof others / sizeof others[0]; i++)
-        nearest_try(&nearest, others[i]);
+    nearest_try(&nearest, "help");
+    nearest_try(&nearest, "--help");
+    nearest_try(&nearest, "--version");
     nearest_words(&nearest, hint, sizeof hint);
     if (is_kind(word))
         report(NULL, "'%s' is a kind of call: 'crz call FILE %s ..'", word, word);

@@ -24,13 +24,18 @@ static void next_row(
     }
 }
 
+static void first_row(unsigned *row)
+{
+    for (unsigned j = 0; j <= LONGEST; j++)
+        row[j] = j;
+}
+
 /* Letters to add, remove, replace or swap with a neighbour until one word is the other. */
 static unsigned edits(const char *a, const char *b)
 {
     unsigned rows[3][LONGEST + 1] = {{0}};
     size_t length = strlen(a);
-    for (unsigned j = 0; j <= LONGEST; j++)
-        rows[0][j] = j;
+    first_row(rows[0]);
     for (size_t i = 1; i <= length; i++)
         next_row(a, b, i, rows[(i + 1) % 3], rows[(i + 2) % 3], rows[i % 3]);
     return rows[length % 3][strlen(b)];

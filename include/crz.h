@@ -20,7 +20,8 @@
  *   CRZ_PHASE_      phases of the day                     CRZ_ANSWER_     offsets in an answer
  *                                                         CRZ_ENTRY_      offsets in an entry of an answer
  *
- * A name that ends in _LENGTH is a length in bytes, _COUNT how many there are, _LEAST and _MOST the ends of a range.
+ * All of these are enumerators. Lengths in bytes (_LENGTH), counts (_COUNT), ends of ranges (_LEAST, _MOST) and fixed
+ * sums are macros.
  */
 #ifndef CRZ_H
 #define CRZ_H

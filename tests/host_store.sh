@@ -146,6 +146,7 @@ END
 held_by() {
     python3 hold.py held "$1" >holding &
     holder=$!
+    disown "$holder" # it is killed below, and nobody needs to hear of it
     for _ in $(seq 500); do [ -s holding ] && break; sleep 0.01; done
     kill -STOP "$holder"
 }
@@ -160,14 +161,12 @@ ends 0 "total 0 fen" show held
 waiting=$!
 sleep 1.3
 kill -KILL "$holder"
-wait "$holder" 2>/dev/null
 wait "$waiting"
 holds "who waits long enough is served: $(cat said)" grep -qF "accepted, sequence 1" said
 holds "a long wait is told" grep -qF "waiting up to 30 seconds" said
 held_by exclusive
 ends 3 "in use by another program" show held --wait 0
 kill -KILL "$holder"
-wait "$holder" 2>/dev/null
 ends 0 "total 5 fen" show held
 
 # ── Many programs at once ───────────────────────────────────────────────────────────────────────────
@@ -358,21 +357,39 @@ else
     echo "no shared objects can be built: failing syncs are not tried"
 fi
 
+# ── Progress ────────────────────────────────────────────────────────────────────────────────────────
+cat >terminal.py <<'END'
+import os, pty, subprocess, sys, time
+master, slave = pty.openpty()
+player = subprocess.Popen(sys.argv[1:], stdout=subprocess.DEVNULL, stderr=slave)
+os.close(slave)
+seen, end = b"", time.time() + 20
+while b"calls" not in seen and time.time() < end and player.poll() is None:
+    seen += os.read(master, 100)
+player.kill()
+player.wait()
+sys.exit(0 if b"play: " in seen and b" of 20,000 calls" in seen else 1)
+END
+"$crz" new long >/dev/null
+holds "a long script shows how far it is on a terminal" python3 terminal.py "$crz" play long many
+holds "and nowhere else" test "$(timeout 2 "$crz" play long many 2>&1 >/dev/null | wc -c)" -eq 0
+
 # ── Changed bytes ───────────────────────────────────────────────────────────────────────────────────
 "$crz" new good >/dev/null && "$crz" play good "$here/host/day.txt" >/dev/null
-"$crz" log good >good.log
-"$crz" show good >good.show
-size=$(stat -c %s good)
+cp good full && script 90 | "$crz" play full - >/dev/null
+"$crz" log full >full.log
+"$crz" show full >full.show
+size=$(stat -c %s full)
 found=0 untouched=0
 for ((at = 0; at < size; at += 512)); do
-    cp good bad
-    byte=$(od -An -tu1 -j "$at" -N 1 good)
+    cp full bad
+    byte=$(od -An -tu1 -j "$at" -N 1 full)
     printf "\\$(printf %o $((byte ^ (1 + RANDOM % 255))))" | dd of=bad bs=1 seek="$at" conv=notrunc 2>/dev/null
     "$crz" verify bad >said 2>&1
     verdict=$?
     if [ "$verdict" -eq 3 ] && grep -q '^crz: bad: ' said; then
         found=$((found + 1))
-    elif [ "$verdict" -eq 0 ] && "$crz" log bad | cmp -s - good.log && "$crz" show bad | cmp -s - good.show; then
+    elif [ "$verdict" -eq 0 ] && "$crz" log bad | cmp -s - full.log && "$crz" show bad | cmp -s - full.show; then
         untouched=$((untouched + 1))
     else
         holds "byte $at changed: verify ends with $verdict: $(cat said)" false
