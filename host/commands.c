@@ -361,11 +361,10 @@ static int find_first(struct store *store, struct listing *l, uint64_t end, uint
         l->first = last > end ? 0 : end + 1 - last;
         return 0;
     }
-    if (store_walk(store, 0, end, note_line, l) != 0)
-        return -1;
+    int bad = store_walk(store, 0, end, note_line, l);
     l->first = last == 0 ? end + 1 : l->count > last ? l->sequences[l->count - last] : 0;
     free(l->sequences);
-    return 0;
+    return bad;
 }
 
 static void show_head(const struct line *last, int json)

@@ -19,6 +19,7 @@
 
 #include <sqlite3.h>
 
+#include "digits.h"
 #include "file.h"
 #include "report.h"
 
@@ -115,8 +116,8 @@ static int failed_at(struct store *store, int code)
         return moved(store);
     switch (code & 0xff) {
     case SQLITE_BUSY:
-        return report(
-            name, "in use by another program; gave up after %u seconds, --wait SECONDS waits longer", store->wait);
+        return report(name, "in use by another program; gave up after %u second%s, --wait SECONDS waits longer",
+            store->wait, plural(store->wait));
     case SQLITE_FULL: return report(name, "the disk is full; make room and try again");
     case SQLITE_CORRUPT:
     case SQLITE_NOTADB: return damaged(store, "the file is not laid out as a store");
@@ -186,9 +187,10 @@ static int run(struct store *store, enum statement which)
     return code == SQLITE_DONE ? 0 : failed_at(store, code);
 }
 
-static int set(struct store *store, const char *pragma)
+/* A statement that is made once. */
+static int execute(struct store *store, const char *text)
 {
-    return sqlite3_exec(store->base, pragma, NULL, NULL, NULL) == SQLITE_OK ? 0 : failed(store);
+    return sqlite3_exec(store->base, text, NULL, NULL, NULL) == SQLITE_OK ? 0 : failed(store);
 }
 
 /* ── Rows ──────────────────────────────────────────────────────────────────────────────────────── */
@@ -377,7 +379,7 @@ static int judge_header(const char *name, enum store_use use, const uint8_t *hea
     if (length == CRZ_IMAGE_LENGTH)
         return report(name, "is no zone; if it is a raw image, 'crz import ZONE %s' makes a zone from it", name);
     if (has < HEADER || memcmp(header, magic, sizeof magic) != 0 || big_endian(header + 68) != APPLICATION)
-        return report(name, "is no zone; 'crz new FILE' makes one");
+        return report(name, "is no zone; name a file that 'crz new' or 'crz import' has made");
     if (big_endian(header + 60) != STORE_FORMAT)
         return report(
             name, "is a zone of format %u; this program knows format %d", big_endian(header + 60), STORE_FORMAT);
@@ -494,11 +496,11 @@ static int set_up(struct store *store)
     sqlite3_db_config(store->base, SQLITE_DBCONFIG_ENABLE_VIEW, 0, NULL);
     sqlite3_busy_handler(store->base, try_again, store);
     start_wait(store);
-    if (set(store, "PRAGMA trusted_schema = OFF") != 0 || set(store, "PRAGMA cell_size_check = ON") != 0
-        || set(store, "PRAGMA mmap_size = 0") != 0 || set(store, "PRAGMA fullfsync = ON") != 0
-        || set(store, "PRAGMA synchronous = EXTRA") != 0)
+    if (execute(store, "PRAGMA trusted_schema = OFF") != 0 || execute(store, "PRAGMA cell_size_check = ON") != 0
+        || execute(store, "PRAGMA mmap_size = 0") != 0 || execute(store, "PRAGMA fullfsync = ON") != 0
+        || execute(store, "PRAGMA synchronous = EXTRA") != 0)
         return -1;
-    if (store->use == STORE_WRITE && set(store, "PRAGMA journal_mode = PERSIST") != 0)
+    if (store->use == STORE_WRITE && execute(store, "PRAGMA journal_mode = PERSIST") != 0)
         return -1;
     return judge_schema(store);
 }
@@ -527,17 +529,23 @@ static int open_judged(struct store *store, const char *name)
     return open_base(store);
 }
 
-struct store *store_open(const char *name, enum store_use use, unsigned wait)
+static struct store *store_named(const char *name, enum store_use use, unsigned wait)
 {
     struct store *store = calloc(1, sizeof *store);
-    if (store == NULL || (store->name = strdup(name)) == NULL) {
-        report(name, "no memory");
-        free(store);
-        return NULL;
+    if (store != NULL && (store->name = strdup(name)) != NULL) {
+        store->use = use;
+        store->wait = wait;
+        return store;
     }
-    store->use = use;
-    store->wait = wait;
-    if (open_judged(store, name) == 0)
+    report(name, "no memory");
+    free(store);
+    return NULL;
+}
+
+struct store *store_open(const char *name, enum store_use use, unsigned wait)
+{
+    struct store *store = store_named(name, use, wait);
+    if (store == NULL || open_judged(store, name) == 0)
         return store;
     store_close(store);
     return NULL;
@@ -566,7 +574,7 @@ static int fill(struct store *store, const uint8_t *image, const struct line *st
     sqlite3_stmt *row = NULL;
     snprintf(ids, sizeof ids, "PRAGMA page_size = %d; PRAGMA application_id = %d; PRAGMA user_version = %d", PAGE,
         APPLICATION, STORE_FORMAT);
-    if (set(store, ids) != 0 || set(store, tables[0]) != 0 || set(store, tables[1]) != 0)
+    if (execute(store, ids) != 0 || execute(store, tables[0]) != 0 || execute(store, tables[1]) != 0)
         return -1;
     int code = sqlite3_prepare_v2(store->base, "INSERT INTO zone VALUES (1, ?1, ?2)", -1, &row, NULL);
     if (code == SQLITE_OK)
@@ -598,23 +606,31 @@ static int judge_name(const char *path)
     return 0;
 }
 
-/* Filled in memory and written as a whole: the file is never seen half made. */
+/* The file's bytes, made in memory; NULL after a message. */
+static unsigned char *make_bytes(struct store *store, const uint8_t *image, const struct line *start, size_t *length)
+{
+    sqlite3_int64 made = 0;
+    if (sqlite3_open_v2(":memory:", &store->base, SQLITE_OPEN_READWRITE | SQLITE_OPEN_NOMUTEX, NULL) != SQLITE_OK
+        || fill(store, image, start) != 0)
+        return NULL;
+    unsigned char *bytes = sqlite3_serialize(store->base, "main", &made, 0);
+    if (bytes == NULL)
+        report(store->name, "no memory");
+    *length = (size_t)made;
+    return bytes;
+}
+
+/* Written as a whole: the file is never seen half made. */
 int store_create(const char *path, const uint8_t image[CRZ_IMAGE_LENGTH], const struct line *start)
 {
-    struct store store = {.name = (char *)(uintptr_t)path, .path = (char *)(uintptr_t)path, .use = STORE_READ};
-    sqlite3_int64 length = 0;
-    unsigned char *bytes = NULL;
-    int bad = judge_name(path) != 0;
-    if (!bad
-        && sqlite3_open_v2(":memory:", &store.base, SQLITE_OPEN_READWRITE | SQLITE_OPEN_NOMUTEX, NULL) != SQLITE_OK)
-        bad = report(path, "no memory");
-    bad = bad || fill(&store, image, start) != 0;
-    if (!bad && (bytes = sqlite3_serialize(store.base, "main", &length, 0)) == NULL)
-        bad = report(path, "no memory");
-    bad = bad || file_create(path, bytes, (size_t)length) != 0;
+    struct store *store = judge_name(path) == 0 ? store_named(path, STORE_READ, 0) : NULL;
+    size_t length = 0;
+    if (store == NULL)
+        return -1;
+    unsigned char *bytes = make_bytes(store, image, start, &length);
+    int bad = bytes == NULL || file_create(path, bytes, length) != 0;
     sqlite3_free(bytes);
-    sqlite3_finalize(store.statements[ADD_LINE]);
-    sqlite3_close(store.base);
+    store_close(store);
     return bad ? -1 : 0;
 }
 
@@ -658,7 +674,7 @@ int store_read(struct store *store, struct newest *newest)
 {
     int own = sqlite3_get_autocommit(store->base);
     start_wait(store);
-    if (own && set(store, "BEGIN") != 0)
+    if (own && execute(store, "BEGIN") != 0)
         return -1;
     int bad = read_newest(store, newest);
     if (own)
@@ -760,11 +776,20 @@ static int first_finding(void *context, int columns, char **values, char **names
     return 0;
 }
 
-int store_judge(struct store *store)
+static int quick_check(struct store *store)
 {
     char finding[FINDING] = "";
-    start_wait(store);
     if (sqlite3_exec(store->base, "PRAGMA quick_check(1)", first_finding, finding, NULL) != SQLITE_OK)
         return failed(store);
     return strcmp(finding, "ok") == 0 ? 0 : damaged(store, finding);
+}
+
+int store_judge(struct store *store)
+{
+    start_wait(store);
+    if (execute(store, "BEGIN") != 0)
+        return -1;
+    int bad = quick_check(store) != 0 || judge_place(store) != 0;
+    store_cancel(store);
+    return bad ? -1 : 0;
 }

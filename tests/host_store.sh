@@ -73,6 +73,8 @@ cp a cut && truncate -s -4096 cut
 ends 3 "damaged" call cut day-close
 cp a grown && head -c 4096 /dev/zero >>grown
 ends 3 "it has another length than its header says" call grown day-close
+ends 3 "it has another length than its header says" verify grown
+ends 3 "damaged" verify cut
 ln a twice
 ends 3 "has 2 names (hard links)" call a day-close
 rm twice
@@ -152,7 +154,7 @@ held_by() {
 }
 held_by immediate
 start=$(date +%s%N)
-ends 3 "in use by another program; gave up after 1 seconds, --wait SECONDS waits longer" call held --wait 1 pay-in account 1 fen 5
+ends 3 "in use by another program; gave up after 1 second, --wait SECONDS waits longer" call held --wait 1 pay-in account 1 fen 5
 took=$((($(date +%s%N) - start) / 1000000))
 holds "the wait ended after $took ms" test "$took" -ge 1000 -a "$took" -lt 4000
 ends 3 "in use by another program; gave up after 0 seconds" call held --wait 0 pay-in account 1 fen 5
