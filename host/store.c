@@ -386,8 +386,10 @@ static int judge_header(const char *name, enum store_use use, const uint8_t *hea
     return header_ours(header) ? 0 : store_damaged(name, use, "its header is changed");
 }
 
-static int judge_kind(const char *name, const struct stat *is)
+static int judge_kind(const char *name, int file, struct stat *is)
 {
+    if (fstat(file, is) != 0)
+        return report(name, "cannot be read: %s", strerror(errno));
     if (S_ISDIR(is->st_mode))
         return report(name, "is a folder, not a zone");
     return S_ISREG(is->st_mode) ? 0 : report(name, "is no regular file");
@@ -402,7 +404,7 @@ static int judge_file(const char *name, enum store_use use, struct stat *is)
         return report(name, "there is no such file; 'crz new FILE' makes a zone");
     if (file < 0)
         return report(name, "cannot be opened: %s", strerror(errno));
-    int bad = fstat(file, is) != 0 || judge_kind(name, is) != 0;
+    int bad = judge_kind(name, file, is);
     if (!bad)
         bad = judge_header(name, use, header, pread(file, header, HEADER, 0), is->st_size);
     close(file);

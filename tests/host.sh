@@ -1,6 +1,7 @@
 #!/usr/bin/env bash
 # The host program's words: commands, calls, refusals, scripts, what a desk asks, and objects for programs.
 # Usage: tests/host.sh PROGRAM
+# shellcheck source=tests/host_common.sh
 . "$(dirname "$0")/host_common.sh"
 
 # ── Commands and options ────────────────────────────────────────────────────────────────────────────
@@ -198,18 +199,27 @@ ends 0 "(tomorrow: today's is made), works 1 lot" due noon
 # ── Objects for programs ────────────────────────────────────────────────────────────────────────────
 cat >objects.py <<'END'
 import json, sys
-kinds = {}
+kinds, names = {}, set()
+def collect(value):
+    for item in value if isinstance(value, list) else [value]:
+        if isinstance(item, dict):
+            names.update(item)
+            for inner in item.values():
+                collect(inner)
 for line in sys.stdin:
     o = json.loads(line)
     kinds.setdefault(o["type"], []).append(o)
+    collect(o)
     assert all(not isinstance(v, float) for v in o.values()), o
+page = open(sys.argv[2]).read().replace('"', " ").replace(",", " ").split()
+assert not [n for n in names | set(kinds) if n not in page], "not in the man page"
 exec(sys.argv[1])
 END
 # objects PYTHON ARGUMENTS..: the program's output is objects, one a line, and the statement holds of them
 objects() {
     local claim=$1
     shift
-    holds "$*: $claim" python3 objects.py "$claim" < <("$crz" "$@" --json)
+    holds "$*: $claim" python3 objects.py "$claim" "$here/host/crz.1" < <("$crz" "$@" --json)
 }
 objects 'assert len(kinds["call"]) == 34 and kinds["start"][0]["through"] == "crz_fresh"' log day
 objects 'assert kinds["call"][0]["call"] == {"kind": "pay-in", "account": 11, "fen": 100000000}' log day
@@ -255,10 +265,10 @@ holds "a bad image makes no zone" test ! -e short.zone -a ! -e long.zone -a ! -e
 # ── What the documents show ─────────────────────────────────────────────────────────────────────────
 mkdir readme guide guide/target
 (cd readme && python3 "$here/tests/host_samples.py" "$crz" "$here/README.md")
-holds "the README's session" test $? -eq 0
+holds "the README's samples" test $? -eq 0
 "$crz" new guide/target/day.crz >/dev/null && "$crz" play guide/target/day.crz "$here/host/day.txt" >/dev/null
 (cd guide && python3 "$here/tests/host_samples.py" "$crz" "$here/docs/GUIDE.md")
-holds "the guide's session" test $? -eq 0
+holds "the guide's samples" test $? -eq 0
 for command in new call play show log verify statement due import export; do
     holds "the man page has $command" grep -q "fBcrz $command" "$here/host/crz.1"
 done

@@ -1,3 +1,4 @@
+# shellcheck shell=bash disable=SC2034
 # What the tests of the host program share: a folder of their own, and counted checks.
 set -u
 here=$(cd "$(dirname "$0")/.." && pwd)

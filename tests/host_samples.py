@@ -1,4 +1,4 @@
-"""The sample sessions of a document, made again: host_samples.py PROGRAM DOCUMENT; times and hashes may differ."""
+"""The samples of a document, made again: host_samples.py PROGRAM DOCUMENT; times and hashes may differ."""
 import re
 import subprocess
 import sys
@@ -11,7 +11,7 @@ def plain(text):
     return re.sub(r"hash [0-9a-f]{16}[0-9a-f.]*", "hash HASH", text)
 
 
-def sessions(lines):
+def samples_in(lines):
     """(command, what it prints) of each indented line that begins with '$ crz'."""
     found = []
     for line in lines:
@@ -26,7 +26,7 @@ def sessions(lines):
 
 bad = 0
 with open(document, encoding="utf-8") as f:
-    samples = sessions(f)
+    samples = samples_in(f)
 for command, printed in samples:
     ran = subprocess.run([program] + command.split(), stdout=subprocess.PIPE, stderr=subprocess.STDOUT, check=False)
     if plain(ran.stdout.decode()) != plain("".join(printed)):

@@ -2,6 +2,7 @@
 # The host program's store: files that are none, output that fails, other users, full and read-only disks, kills, many
 # programs at once, changed bytes. Usage: tests/host_store.sh PROGRAM FAST_PROGRAM; the second one is timed.
 fast=$(realpath "$2")
+# shellcheck source=tests/host_common.sh
 . "$(dirname "$0")/host_common.sh"
 
 # script COUNT: pay-ins of one fen
@@ -328,7 +329,7 @@ for round in $(seq 25); do
 done
 holds "the kills came in the middle of the script: $last" test "$last" -gt 0 -a "$last" -lt 500000
 for round in $(seq 20); do
-    "$crz" new "made.$round" >/dev/null 2>&1 &
+    "$fast" new "made.$round" >/dev/null 2>&1 &
     player=$!
     sleep "0.00$((RANDOM % 9 + 1))"
     kill -9 "$player" 2>/dev/null
@@ -336,7 +337,7 @@ for round in $(seq 20); do
     [ ! -e "made.$round" ] || "$crz" verify "made.$round" >/dev/null
     holds "a new zone is whole or not there" test $? -eq 0
 done
-holds "a killed 'new' leaves no other file" test -z "$(ls | grep 'made\.[0-9]*.\+' | grep -v 'made\.[0-9]*$')"
+holds "a killed 'new' leaves no other file" test -z "$(find . -name 'made.*[!0-9]*')"
 
 # ── Syncs that fail ─────────────────────────────────────────────────────────────────────────────────
 if gcc -shared -fPIC -o failing.so "$here/tests/failing_sync.c" -ldl 2>/dev/null; then
