@@ -499,8 +499,8 @@ static int set_up(struct store *store)
     sqlite3_busy_handler(store->base, try_again, store);
     start_wait(store);
     if (execute(store, "PRAGMA trusted_schema = OFF") != 0 || execute(store, "PRAGMA cell_size_check = ON") != 0
-        || execute(store, "PRAGMA mmap_size = 0") != 0 || execute(store, "PRAGMA fullfsync = ON") != 0
-        || execute(store, "PRAGMA synchronous = EXTRA") != 0)
+        || execute(store, "PRAGMA mmap_size = 0") != 0 || execute(store, "PRAGMA temp_store = MEMORY") != 0
+        || execute(store, "PRAGMA fullfsync = ON") != 0 || execute(store, "PRAGMA synchronous = EXTRA") != 0)
         return -1;
     if (store->use == STORE_WRITE && execute(store, "PRAGMA journal_mode = PERSIST") != 0)
         return -1;
@@ -589,14 +589,23 @@ static int fill(struct store *store, const uint8_t *image, const struct line *st
     return code == SQLITE_DONE ? add_line(store, start) : failed(store);
 }
 
+/* SQLite takes whole paths up to a length; a zone that nobody could open is not made. */
+static int path_fits(const char *path)
+{
+    char here[LONGEST_PATH + 1];
+    if (path[0] == '/')
+        return strlen(path) <= LONGEST_PATH;
+    return getcwd(here, sizeof here) != NULL && strlen(here) + 1 + strlen(path) <= LONGEST_PATH;
+}
+
 /* What is left of another zone would be taken for changes of this one, and a name like that for a file of SQLite's. */
 static int judge_name(const char *path)
 {
     char beside[LONGEST_PATH + 16];
     struct stat is;
     size_t length = strlen(path);
-    if (length > LONGEST_PATH)
-        return report(path, "the path is longer than %d bytes", LONGEST_PATH);
+    if (!path_fits(path))
+        return report(path, "its whole path is longer than %d bytes", LONGEST_PATH);
     for (size_t i = 0; i < ENDINGS; i++) {
         size_t end = strlen(endings[i]);
         if (length >= end && strcmp(path + length - end, endings[i]) == 0)

@@ -50,6 +50,12 @@ mv a-wal b-journal
 ends 3 "b-journal is there, left of another zone perhaps" new b
 rm b-journal
 ends 3 "its folder nowhere cannot be opened" new nowhere/b
+deep=$(printf 'folder%0194d' 0)
+mkdir -p "$deep/$deep"
+ends 3 "its whole path is longer than 480 bytes" new "$deep/$deep/$deep"
+(cd "$deep/$deep" && "$crz" new "$(printf 'zone%0194d' 0)" >/dev/null 2>&1)
+holds "a long folder ends with $?" test $? -eq 3
+holds "no zone that nobody could open is made" test -z "$(ls "$deep/$deep")"
 
 # ── Files that are no zone ──────────────────────────────────────────────────────────────────────────
 : >empty
@@ -338,6 +344,39 @@ for round in $(seq 20); do
     holds "a new zone is whole or not there" test $? -eq 0
 done
 holds "a killed 'new' leaves no other file" test -z "$(find . -name 'made.*[!0-9]*')"
+
+# A commit that was cut off while pages were being written is taken back by the next program.
+cat >cut.py <<'END'
+import os, sqlite3, sys
+base = sqlite3.connect(sys.argv[1], isolation_level=None)
+base.execute("pragma cache_size = 1")
+base.execute("begin immediate")
+base.execute("update zone set image = zeroblob(5696)")
+base.execute("update journal set answer = zeroblob(1040)")
+os._exit(9)
+END
+"$crz" new halfway >/dev/null && script 100 | "$crz" play halfway - >/dev/null
+cp halfway whole.copy
+# cut_off: pages of the zone are changed, and SQLite's file knows what they were
+cut_off() {
+    python3 cut.py halfway
+    holds "a commit was cut off" test "$(cmp -s halfway whole.copy || echo changed)" = changed -a -s halfway-journal
+}
+cut_off
+ends 0 "total 100 fen" show halfway
+holds "reading took it back" cmp -s halfway whole.copy
+cut_off
+ends 0 "accepted, sequence 101" call halfway pay-in account 5 fen 1
+whole halfway
+holds "a call took it back" test $? -eq 0
+if [ "$(id -u)" -eq 0 ] && as_nobody true 2>/dev/null; then
+    cp halfway whole.copy
+    cut_off
+    said=$(as_nobody "$crz" show halfway 2>&1)
+    holds "a user who may not write ends with $?: $said" test $? -eq 3
+    holds "a user who may not write: $said" grep -qF "open the zone once as a user who may write it" <<<"$said"
+    ends 0 "total 101 fen" show halfway
+fi
 
 # ── Syncs that fail ─────────────────────────────────────────────────────────────────────────────────
 if gcc -shared -fPIC -o failing.so "$here/tests/failing_sync.c" -ldl 2>/dev/null; then
