@@ -1,91 +1,76 @@
 /*
- * The history table beside the runs of tests/vectors: fed with call records and answers alone, and after every call
- * held against the image. The last line is 'N passed, M failed'; each call with its four sentences counts once.
+ * The history table beside the runs of the vectors: fed with call records and answers alone, and after every call held
+ * against the image. Usage: history LIST. The last line is 'N passed, M failed'; a call with its four sentences counts
+ * once.
  */
 #include "../host/history.h"
-#include "each_file.h"
+#include "vector_file.h"
 
 #include <stdio.h>
-#include <stdlib.h>
 #include <string.h>
 
 static struct history history;
-static uint8_t image[CRZ_IMAGE_LENGTH], answer[CRZ_ANSWER_LENGTH], call[CRZ_CALL_LENGTH];
-static char line[1 << 16];
+static uint8_t image[CRZ_IMAGE_LENGTH], answer[VECTOR_MOST];
 
-static void start(void)
+static int start(void)
 {
     history_start(&history);
-    crz_fresh(image, sizeof image);
+    return crz_fresh(image, sizeof image) == CRZ_NUMBER_ACCEPTED;
 }
 
-/* the call of a line "C hex .."; a record of another length than 24 is cut or filled with zeros */
-static void read_call(const char *s)
+/* whether the call is answered as the vectors say and all four sentences hold after it */
+static int holds(const struct vector_step *step)
 {
-    size_t n = 0;
-    memset(call, 0, sizeof call);
-    for (; n < sizeof call && s[0] != ' ' && s[1] != ' '; s += 2, n++) {
-        char two[3] = {s[0], s[1], 0};
-        call[n] = (uint8_t)strtoul(two, NULL, 16);
+    struct finding finding = {SENTENCE_NONE, 0};
+    uint32_t number;
+    memset(answer, VECTOR_FILL, step->answer_len);
+    number = crz_call(image, sizeof image, step->call, step->call_len, answer, step->answer_len);
+    if (number == CRZ_NUMBER_ACCEPTED)
+        finding = history_feed(&history, step->call, answer);
+    if (finding.sentence == SENTENCE_NONE)
+        finding = history_hold(&history, image);
+    return number == step->number && finding.sentence == SENTENCE_NONE;
+}
+
+/* the table knows an image only from its fresh start on */
+static int make(const struct vector_step *step)
+{
+    switch (step->kind) {
+    case STEP_FRESH: return start();
+    case STEP_CALL: return holds(step);
+    default: return 0;
     }
 }
 
-/* whether all four sentences hold after the call */
-static int holds(void)
-{
-    struct finding finding = {SENTENCE_NONE, 0};
-    if (crz_call(image, sizeof image, call, sizeof call, answer, sizeof answer) == CRZ_NUMBER_ACCEPTED)
-        finding = history_feed(&history, call, answer);
-    if (finding.sentence == SENTENCE_NONE)
-        finding = history_hold(&history, image);
-    return finding.sentence == SENTENCE_NONE;
-}
-
 /* a table fed with something else than what was made must not hold */
-static void count_wrong(unsigned long *seen, unsigned long *unseen)
+static void count_wrong(struct tally *tally)
 {
     static struct history wrong;
     static const size_t places[] = {CRZ_CALL_AMOUNT, CRZ_CALL_ACCOUNT};
+    uint8_t call[CRZ_CALL_LENGTH] = {0};
     size_t i;
     start();
-    memset(call, 0, sizeof call);
     call[CRZ_CALL_KIND] = CRZ_KIND_PAY_IN;
     call[CRZ_CALL_ACCOUNT] = 3;
     call[CRZ_CALL_AMOUNT] = 7;
-    crz_call(image, sizeof image, call, sizeof call, answer, sizeof answer);
+    crz_call(image, sizeof image, call, sizeof call, answer, CRZ_ANSWER_LENGTH);
     for (i = 0; i < sizeof places / sizeof places[0]; i++) {
         history_start(&wrong);
         call[places[i]]++;
         history_feed(&wrong, call, answer);
         call[places[i]]--;
-        ++*(history_hold(&wrong, image).sentence == SENTENCE_BOOKS ? seen : unseen);
+        ++*(history_hold(&wrong, image).sentence == SENTENCE_BOOKS ? &tally->passed : &tally->failed);
     }
-}
-
-static void run(const char *path, unsigned long *passed, unsigned long *failed)
-{
-    FILE *f = fopen(path, "r");
-    unsigned long good = 0, bad = 0;
-    if (!f) {
-        ++*failed;
-        return;
-    }
-    while (fgets(line, sizeof line, f)) {
-        if (line[0] == 'Z')
-            start();
-        if (line[0] != 'C')
-            continue;
-        read_call(line + 2);
-        ++*(holds() ? &good : &bad);
-    }
-    fclose(f);
-    printf("%s: the history holds after %lu calls, fails after %lu\n", path, good, bad);
-    count_wrong(&good, &bad);
-    *passed += good;
-    *failed += bad;
 }
 
 int main(int argc, char **argv)
 {
-    return each_file(argc, argv, run);
+    struct tally tally = {0, 0};
+    if (argc != 2) {
+        fprintf(stderr, "usage: history LIST\n");
+        return 2;
+    }
+    walk_vectors(argv[1], "run-", make, &tally);
+    count_wrong(&tally);
+    return show_tally(&tally);
 }
