@@ -1,7 +1,8 @@
 /* Calls made at random: sensible ones, which carry lots through all states, and wild ones. */
 #include "longrun.h"
 
-enum { CHEAP_CONTRACT = 8 };
+/* at the prices of these two the full payment is the least and the most that there can be */
+enum { CHEAP_CONTRACT = 8, DEAR_CONTRACT = 7 };
 
 /* ── Random numbers: xorshift with 64 bits ─────────────────────────────────────────────────────── */
 
@@ -63,33 +64,43 @@ static unsigned some_contract(void)
     uint64_t draw = below(100);
     if (draw < 20)
         return CHEAP_CONTRACT;
-    return (unsigned)(draw < 60 ? between(1, 3) : between(1, CRZ_CONTRACT_COUNT));
+    if (draw < 30)
+        return DEAR_CONTRACT;
+    return (unsigned)(draw < 65 ? between(1, 3) : between(1, CRZ_CONTRACT_COUNT));
 }
 
-/* prices of a contract lie near each other; those of the last contract are low, so that full payments lie below the
- * deposit */
+/* prices of a contract lie near each other */
 static uint64_t near_price(unsigned contract)
 {
-    if (contract == CHEAP_CONTRACT)
-        return 5 * between(1, 10);
-    return 14000 + 500 * (uint64_t)contract + 5 * below(20);
+    switch (contract) {
+    case CHEAP_CONTRACT: return percent(30) ? CRZ_PRICE_LEAST : 5 * between(1, 10);
+    case DEAR_CONTRACT: return percent(30) ? CRZ_PRICE_MOST : CRZ_PRICE_MOST - 5 * below(10);
+    default: return 14000 + 500 * (uint64_t)contract + 5 * below(20);
+    }
+}
+
+static uint64_t near_basis(unsigned contract)
+{
+    switch (contract) {
+    case CHEAP_CONTRACT: return percent(30) ? 1 - (uint64_t)CRZ_PRICE_LEAST : below(80) - 50;
+    case DEAR_CONTRACT: return percent(40) ? CRZ_BASIS_MOST : CRZ_BASIS_MOST - below(10);
+    default: return below(801) - 400;
+    }
 }
 
 static uint64_t some_basis(unsigned contract)
 {
-    static const int32_t edges[] = {-50001, -50000, 50000, 50001};
+    static const int32_t edges[] = {CRZ_BASIS_LEAST - 1, CRZ_BASIS_LEAST, CRZ_BASIS_MOST, CRZ_BASIS_MOST + 1};
     uint64_t draw = below(100);
     if (draw < 2)
         return (uint64_t)edges[below(4)];
-    if (draw < 5)
-        return (uint64_t)-50000 + below(50000);
-    return contract == CHEAP_CONTRACT ? below(80) - 50 : below(801) - 400;
+    return draw < 5 ? (uint64_t)CRZ_BASIS_LEAST + below(CRZ_BASIS_MOST) : near_basis(contract);
 }
 
 static uint64_t some_weight(void)
 {
-    static const uint64_t edges[] = {999, 1000, 1001, 41237, 59999, 60000, 60001};
-    return percent(30) ? edges[below(7)] : between(39000, 43000);
+    static const uint64_t edges[] = {999, 1000, 1000, 1000, 1001, 41237, 59999, 60000, 60000, 60000, 60001};
+    return percent(50) ? edges[below(sizeof edges / sizeof edges[0])] : between(39000, 43000);
 }
 
 /* the ends of the range of amounts, and one fen beyond */

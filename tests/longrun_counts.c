@@ -6,7 +6,7 @@
 
 #include <stdio.h>
 
-enum { NUMBERS = 14, OUTCOMES = 16, KINDS = 16, VERDICTS = 2, LIMITS = 3, AMOUNTS = 4 };
+enum { NUMBERS = 14, OUTCOMES = 16, KINDS = 16, VERDICTS = 2, LIMITS = 3, AMOUNTS = 4, FULLS = 2 };
 
 /*
  * The numbers 0 to 13 that a kind can return ('+'). Numbers 1 and 2 are of buffers and images, 3 is of the record's
@@ -42,8 +42,11 @@ static const uint8_t strikers[STRIKERS] = {CRZ_KIND_LIMIT_BID, CRZ_KIND_MARKET_B
 static const uint8_t payers[PAYERS] = {CRZ_KIND_PAY_IN, CRZ_KIND_TAKE_OUT, CRZ_KIND_INVOICE};
 static const uint64_t amounts[AMOUNTS] = {0, CRZ_AMOUNT_MOST - 1, CRZ_AMOUNT_MOST, CRZ_AMOUNT_MOST + 1};
 
+/* the least and the most that a lot can cost: 1 x 1,000 and 250,000 x 60,000 tenths of a fen */
+static const uint32_t fulls[FULLS] = {100, 1500000000};
+
 static unsigned long returned[KINDS][NUMBERS], outcomes[OUTCOMES], most_entries;
-static unsigned long struck[STRIKERS][CRZ_CONTRACT_COUNT + 1], at_amount[PAYERS][AMOUNTS];
+static unsigned long settled[FULLS], struck[STRIKERS][CRZ_CONTRACT_COUNT + 1], at_amount[PAYERS][AMOUNTS];
 static unsigned long at_total[LIMITS], filled[VERDICTS][LIMITS], damaged[VERDICTS];
 
 /* ── Counting ──────────────────────────────────────────────────────────────────────────────────── */
@@ -64,18 +67,28 @@ static uint8_t kind_of(const struct request *q)
     return kind < KINDS ? kind : 0;
 }
 
-static void count_entries(const struct made *made, uint8_t kind)
+static void count_entry(const struct made *made, uint8_t kind, const struct crz_entry_fields *entry)
 {
     size_t striker = place_of(kind, strikers, STRIKERS);
+    uint32_t contract = crz_get_receipt(made->after, entry->lot).contract;
+    if (entry->outcome < OUTCOMES)
+        outcomes[entry->outcome]++;
+    if (entry->outcome == CRZ_OUTCOME_STRUCK && striker < STRIKERS && contract <= CRZ_CONTRACT_COUNT)
+        struck[striker][contract]++;
+    if (entry->outcome == CRZ_OUTCOME_SETTLED) {
+        settled[0] += entry->number == fulls[0];
+        settled[1] += entry->number == fulls[1];
+    }
+}
+
+static void count_entries(const struct made *made, uint8_t kind)
+{
     uint32_t i, entries = crz_get_answer(made->answer).count;
     if (entries > most_entries)
         most_entries = entries;
     for (i = 0; i < entries && i < CRZ_ENTRY_COUNT; i++) {
         struct crz_entry_fields entry = crz_get_entry(made->answer, i);
-        if (entry.outcome < OUTCOMES)
-            outcomes[entry.outcome]++;
-        if (entry.outcome == CRZ_OUTCOME_STRUCK && striker < STRIKERS)
-            struck[striker][crz_get_receipt(made->after, entry.lot).contract % (CRZ_CONTRACT_COUNT + 1)]++;
+        count_entry(made, kind, &entry);
     }
 }
 
@@ -181,6 +194,8 @@ static void show_amounts(void)
     show_row("that a pay-in makes", at_total, "+++");
     show_row("of a valid image", filled[0], "++-");
     show_row("of an invalid image", filled[1], "--+");
+    printf("%-22s %6s %6s\n", "full payment", "least", "most");
+    show_row("settled", settled, "++");
 }
 
 void show_counts(unsigned long *reached, unsigned long *unreached)

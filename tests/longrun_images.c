@@ -128,6 +128,13 @@ static void damage_header(uint8_t *image)
     displace(image + offset, f->size, other);
 }
 
+/* any bit, those of receipts that nobody has registered too */
+static void flip_bit(uint8_t *image)
+{
+    size_t place = (size_t)below(CRZ_IMAGE_LENGTH);
+    image[place] = (uint8_t)(image[place] ^ 1u << below(8));
+}
+
 uint64_t damage_image(uint8_t *image)
 {
     uint64_t draw = below(100), number = between(1, plan.receipts);
@@ -135,10 +142,12 @@ uint64_t damage_image(uint8_t *image)
         damage_receipt(image, number);
         return number;
     }
-    if (draw < 80)
+    if (draw < 75)
         damage_account(image);
-    else
+    else if (draw < 90)
         damage_header(image);
+    else
+        flip_bit(image);
     return 0;
 }
 
