@@ -128,38 +128,41 @@ static struct made compare(const struct request *q)
     return made;
 }
 
-/* a call on the image as it was changed: often a close or a step of the receipt concerned, else any call that the image
+/* a call on an image that was changed: often a close or a step of the receipt concerned, else any call that the image
  * before had sense for */
-static struct made judge_changed(const uint8_t *image_before, uint64_t receipt)
+static void meet_change(struct request *q, const uint8_t *image_before, uint64_t receipt)
 {
-    struct request q;
-    memcpy(plain.image, library.image, sizeof plain.image);
     if (percent(30))
-        close_phase(&q, library.image);
+        close_phase(q, library.image);
     else if (receipt != 0 && percent(70))
-        step_lot(&q, library.image, receipt);
+        step_lot(q, library.image, receipt);
     else
-        sensible_call(&q, image_before);
-    return compare(&q);
+        sensible_call(q, image_before);
 }
 
-/* both judge an image with a field out of place or filled to the limit; the run goes on with the one before */
-static void judge_made_up(void)
+struct making {
+    uint64_t (*make)(uint8_t *image);
+    void (*count)(const struct made *made);
+};
+
+static const struct making filled = {fill_to_limit, count_filled};
+static const struct making stray = {stray_image, count_stray};
+static const struct making damaged = {damage_image, count_damaged};
+
+/* both judge a made-up image; the run goes on with the one before */
+static void judge_made_up(const struct making *making)
 {
     static struct side saved_library, saved_plain;
+    struct request q;
     struct made made;
     uint64_t receipt;
     saved_library = library;
     saved_plain = plain;
-    if (percent(4)) {
-        fill_to_limit(library.image);
-        made = judge_changed(saved_library.image, 0);
-        count_filled(&made);
-    } else {
-        receipt = damage_image(library.image);
-        made = judge_changed(saved_library.image, receipt);
-        count_damaged(&made);
-    }
+    receipt = making->make(library.image);
+    memcpy(plain.image, library.image, sizeof plain.image);
+    meet_change(&q, saved_library.image, receipt);
+    made = compare(&q);
+    making->count(&made);
     library = saved_library;
     plain = saved_plain;
 }
@@ -261,12 +264,16 @@ static void start(void)
 static void make_any(void)
 {
     struct request q;
-    uint64_t draw = below(100);
-    if (draw < 12) {
-        judge_made_up();
+    uint64_t draw = below(1000);
+    if (draw < 5)
+        judge_made_up(&filled);
+    else if (draw < 20)
+        judge_made_up(&stray);
+    else if (draw < 120)
+        judge_made_up(&damaged);
+    if (draw < 120)
         return;
-    }
-    if (draw < 24)
+    if (draw < 240)
         wild_call(&q, library.image);
     else
         sensible_call(&q, library.image);

@@ -56,11 +56,16 @@ uint64_t edge_value(void);
 
 /* ── Images (longrun_images.c) ─────────────────────────────────────────────────────────────────── */
 
-/* puts a field out of place; returns the receipt that it belongs to, 0 for none */
+/* Each changes a valid image and returns the receipt that it concerns, 0 for none. */
+
+/* puts a field or a bit out of place */
 uint64_t damage_image(uint8_t *image);
 
-/* gives an account of a valid image so much that the total lies at its limit or one fen beside it */
-void fill_to_limit(uint8_t *image);
+/* a bid that stands at the ask or beside it, or a lot that is overdue: valid, though no run of calls leads there */
+uint64_t stray_image(uint8_t *image);
+
+/* gives an account so much that the total lies at its limit or one fen beside it */
+uint64_t fill_to_limit(uint8_t *image);
 
 /* ── Counts (longrun_counts.c) ─────────────────────────────────────────────────────────────────── */
 
@@ -73,8 +78,9 @@ struct made {
 
 void count_call(const struct made *made);
 
-/* what was said of an image with a field out of place, and of one that was filled to the limit */
+/* what was said of the three kinds of images */
 void count_damaged(const struct made *made);
+void count_stray(const struct made *made);
 void count_filled(const struct made *made);
 
 /* prints the counts; adds up what was reached, and what was not although it can be */

@@ -73,8 +73,8 @@ static unsigned some_contract(void)
 static uint64_t near_price(unsigned contract)
 {
     switch (contract) {
-    case CHEAP_CONTRACT: return percent(30) ? CRZ_PRICE_LEAST : 5 * between(1, 10);
-    case DEAR_CONTRACT: return percent(30) ? CRZ_PRICE_MOST : CRZ_PRICE_MOST - 5 * below(10);
+    case CHEAP_CONTRACT: return percent(40) ? CRZ_PRICE_LEAST : 5 * between(1, 10);
+    case DEAR_CONTRACT: return percent(50) ? CRZ_PRICE_MOST : CRZ_PRICE_MOST - 5 * below(10);
     default: return 14000 + 500 * (uint64_t)contract + 5 * below(20);
     }
 }
@@ -82,8 +82,8 @@ static uint64_t near_price(unsigned contract)
 static uint64_t near_basis(unsigned contract)
 {
     switch (contract) {
-    case CHEAP_CONTRACT: return percent(30) ? 1 - (uint64_t)CRZ_PRICE_LEAST : below(80) - 50;
-    case DEAR_CONTRACT: return percent(40) ? CRZ_BASIS_MOST : CRZ_BASIS_MOST - below(10);
+    case CHEAP_CONTRACT: return percent(40) ? 1 - (uint64_t)CRZ_PRICE_LEAST : below(80) - 50;
+    case DEAR_CONTRACT: return percent(60) ? CRZ_BASIS_MOST : CRZ_BASIS_MOST - below(10);
     default: return below(801) - 400;
     }
 }

@@ -47,7 +47,8 @@ static const uint32_t fulls[FULLS] = {100, 1500000000};
 
 static unsigned long returned[KINDS][NUMBERS], outcomes[OUTCOMES], most_entries;
 static unsigned long settled[FULLS], struck[STRIKERS][CRZ_CONTRACT_COUNT + 1], at_amount[PAYERS][AMOUNTS];
-static unsigned long at_total[LIMITS], filled[VERDICTS][LIMITS], damaged[VERDICTS];
+static unsigned long at_total[LIMITS], filled[VERDICTS][LIMITS];
+static unsigned long damaged[VERDICTS], stray[VERDICTS];
 
 /* ── Counting ──────────────────────────────────────────────────────────────────────────────────── */
 
@@ -125,6 +126,11 @@ void count_call(const struct made *made)
 void count_damaged(const struct made *made)
 {
     damaged[made->number == CRZ_NUMBER_BAD_IMAGE]++;
+}
+
+void count_stray(const struct made *made)
+{
+    stray[made->number == CRZ_NUMBER_BAD_IMAGE]++;
 }
 
 void count_filled(const struct made *made)
@@ -205,8 +211,9 @@ void show_counts(unsigned long *reached, unsigned long *unreached)
     show_row("entries", outcomes + 1, "+++++++++++++++");
     show_strikes();
     show_amounts();
-    printf("%-22s %6s %6s\n", "a field out of place", "valid", "not");
-    show_row("images", damaged, "++");
+    printf("%-22s %6s %6s\n", "made-up images", "valid", "not");
+    show_row("a field out of place", damaged, "++");
+    show_row("valid, not reached", stray, "+-");
     printf("%lu entries in the longest answer\n", most_entries);
     *reached = met;
     *unreached = unmet;

@@ -1,4 +1,4 @@
-/* Images with a field out of place, made from those that a run has reached. */
+/* Made-up images, from those that a run has reached. */
 #include "longrun.h"
 
 /* a field of the image, or of each record of a table */
@@ -151,11 +151,39 @@ uint64_t damage_image(uint8_t *image)
     return 0;
 }
 
-void fill_to_limit(uint8_t *image)
+/* ── Valid images that no run reaches ──────────────────────────────────────────────────────────── */
+
+/* a price beside the other, at most one step away, within the range */
+static uint32_t price_near(uint32_t price)
+{
+    uint64_t near = price - CRZ_PRICE_STEP + CRZ_PRICE_STEP * below(3);
+    return near >= CRZ_PRICE_LEAST && near <= CRZ_PRICE_MOST ? (uint32_t)near : price;
+}
+
+uint64_t stray_image(uint8_t *image)
+{
+    uint64_t number = between(1, plan.receipts);
+    struct crz_receipt_fields receipt = crz_get_receipt(image, (uint32_t)number);
+    uint16_t due = (uint16_t)between(CRZ_DUE_LEAST, crz_get_day(image));
+    switch (receipt.state) {
+    case CRZ_STATE_BID_STANDS:
+        crz_put_u32(image + crz_ask_offset(receipt.contract), price_near(receipt.price));
+        return number;
+    case CRZ_STATE_STRUCK:
+    case CRZ_STATE_LODGED:
+    case CRZ_STATE_PENALTY_DUE:
+        crz_put_u16(image + crz_receipt_offset((uint32_t)number) + CRZ_RECEIPT_DUE, due);
+        return number;
+    default: return 0;
+    }
+}
+
+uint64_t fill_to_limit(uint8_t *image)
 {
     uint64_t total = crz_get_total(image), wanted = CRZ_TOTAL_MOST - 1 + below(3);
     if (wanted < total)
         wanted = total;
     add_to(account_in(image, some_account()) + CRZ_ACCOUNT_FREE, wanted - total);
     crz_put_u64(image + CRZ_IMAGE_TOTAL, wanted);
+    return 0;
 }
