@@ -196,7 +196,7 @@ holds "ten programs: every call has its own number" test "$(cat said.* | grep -o
 whole shared
 holds "ten programs: journal and image agree" test $? -eq 0
 
-# ── Files that gone while a script runs ───────────────────────────────────────────────────────────
+# ── Files that go while a script runs ───────────────────────────────────────────────────────────────
 "$crz" new gone >/dev/null
 script 300 >three_hundred
 "$crz" play gone three_hundred >said 2>&1 &
@@ -401,13 +401,14 @@ fi
 
 # ── Progress ────────────────────────────────────────────────────────────────────────────────────────
 cat >terminal.py <<'END'
-import os, pty, subprocess, sys, time
+import os, pty, select, subprocess, sys, time
 master, slave = pty.openpty()
 player = subprocess.Popen(sys.argv[1:], stdout=subprocess.DEVNULL, stderr=slave)
 os.close(slave)
 seen, end = b"", time.time() + 20
 while b"calls" not in seen and time.time() < end and player.poll() is None:
-    seen += os.read(master, 100)
+    if select.select([master], [], [], 1)[0]:
+        seen += os.read(master, 100)
 player.kill()
 player.wait()
 sys.exit(0 if b"play: " in seen and b" of 20,000 calls" in seen else 1)
