@@ -1,7 +1,7 @@
 /*
  * Time per call of the library and of the plain C ledger (plain.c, once from each compiler), through one interface in
  * one run: for each row the least time of many rounds, a round being one call on each of a few images in the same
- * state.
+ * state. All rows are swept several times, so that a slow moment of the machine does not meet one row alone.
  *
  * bench              the table of times; the ratio is the library's to the faster of the plain ones
  * bench rows         the names of the rows
@@ -23,7 +23,7 @@ typedef uint32_t ledger_call(
     uint8_t *image, size_t image_len, const uint8_t *call, size_t call_len, uint8_t *answer, size_t answer_len);
 ledger_call plain_gcc_call, plain_clang_call;
 
-enum { IMAGES = 16, ROUNDS = 3000, DAY = 5, PRICE = 15000, WEIGHT = 41237, CONFIRMED = 1000, PAID = 100 };
+enum { IMAGES = 16, ROUNDS = 1000, SWEEPS = 10, DAY = 5, PRICE = 15000, WEIGHT = 41237, CONFIRMED = 1000, PAID = 100 };
 enum { LOT = 3, BIDDER = 90 };
 
 /* the library comes first */
@@ -182,32 +182,40 @@ static double one_round(const struct ledger *ledger, const struct row *row, cons
     return start / IMAGES;
 }
 
+/* least time of each row and ledger so far, 0 before the first */
+static double least[ROWS][LEDGERS];
+
 /* the ledgers take turns, so that all meet the same moods of the machine */
-static void measure(const struct row *row, double *least)
+static void measure(int row)
 {
     uint8_t image[CRZ_IMAGE_LENGTH], call[CRZ_CALL_LENGTH];
     int i;
-    prepare(row, image, call);
+    prepare(&rows[row], image, call);
     for (i = 0; i < ROUNDS * LEDGERS; i++) {
-        double took = one_round(&ledgers[i % LEDGERS], row, image, call);
-        if (i < LEDGERS || took < least[i % LEDGERS])
-            least[i % LEDGERS] = took;
+        double took = one_round(&ledgers[i % LEDGERS], &rows[row], image, call), *best = &least[row][i % LEDGERS];
+        if (*best == 0 || took < *best)
+            *best = took;
     }
 }
 
-static void print_row(const struct row *row)
+static void sweep(void)
 {
-    double least[LEDGERS], faster;
+    int row;
+    for (row = 0; row < ROWS; row++)
+        measure(row);
+}
+
+static void print_row(int row)
+{
+    double faster = least[row][1];
     int i;
-    measure(row, least);
-    faster = least[1];
-    printf("%-22s", row->name);
+    printf("%-22s", rows[row].name);
     for (i = 0; i < LEDGERS; i++) {
-        printf(" %8.0f", least[i]);
-        if (i > 0 && least[i] < faster)
-            faster = least[i];
+        printf(" %8.0f", least[row][i]);
+        if (i > 0 && least[row][i] < faster)
+            faster = least[row][i];
     }
-    printf(" %8.1f\n", least[0] / faster);
+    printf(" %8.1f\n", least[row][0] / faster);
 }
 
 static void print_heads(void)
@@ -251,17 +259,31 @@ static int one_round_of(const char *ledger_name, const char *row_name)
     return 0;
 }
 
+static int print_names(void)
+{
+    int row;
+    for (row = 0; row < ROWS; row++)
+        puts(rows[row].name);
+    return 0;
+}
+
+static void sweep_all(void)
+{
+    int i;
+    for (i = 0; i < SWEEPS; i++)
+        sweep();
+}
+
 int main(int argc, char **argv)
 {
-    int i, names = argc == 2 && strcmp(argv[1], "rows") == 0;
+    int row;
     if (argc == 3)
         return one_round_of(argv[1], argv[2]);
-    if (!names)
-        print_heads();
-    for (i = 0; i < ROWS; i++)
-        if (names)
-            puts(rows[i].name);
-        else
-            print_row(&rows[i]);
+    if (argc == 2 && strcmp(argv[1], "rows") == 0)
+        return print_names();
+    sweep_all();
+    print_heads();
+    for (row = 0; row < ROWS; row++)
+        print_row(row);
     return 0;
 }
