@@ -161,25 +161,33 @@ static void prepare(const struct row *row, uint8_t *image, uint8_t *call)
     call[CRZ_CALL_CONTRACT] = row->contract;
 }
 
-/* nanoseconds per call of one round */
-static double one_round(const struct ledger *ledger, const struct row *row, const uint8_t *image, const uint8_t *call)
+static uint8_t images[IMAGES][CRZ_IMAGE_LENGTH];
+
+static void copy_images(const uint8_t *image)
 {
-    static uint8_t images[IMAGES][CRZ_IMAGE_LENGTH], answer[CRZ_ANSWER_LENGTH];
-    uint32_t other = 0;
-    double start;
     int i;
     for (i = 0; i < IMAGES; i++)
         memcpy(images[i], image, CRZ_IMAGE_LENGTH);
+}
+
+/* nanoseconds per call of one round */
+static double one_round(const struct ledger *ledger, const struct row *row, const uint8_t *image, const uint8_t *call)
+{
+    static uint8_t answer[CRZ_ANSWER_LENGTH];
+    uint32_t other = 0;
+    double start, took;
+    int i;
+    copy_images(image);
     start = now();
     for (i = 0; i < IMAGES; i++)
         other |=
             row->number ^ ledger->call(images[i], CRZ_IMAGE_LENGTH, call, CRZ_CALL_LENGTH, answer, CRZ_ANSWER_LENGTH);
-    start = now() - start;
+    took = now() - start;
     if (other != 0) {
         fprintf(stderr, "%s, %s: returned another number than %u\n", row->name, ledger->name, (unsigned)row->number);
         exit(1);
     }
-    return start / IMAGES;
+    return took / IMAGES;
 }
 
 /* least time of each row and ledger so far, 0 before the first */
