@@ -5,10 +5,11 @@
  *
  * bench              the table of times; the ratio is the library's to the faster of the plain ones
  * bench rows         the names of the rows
- * bench LEDGER ROW   one round of one row, to count its instructions: LEDGER is crz, gcc or clang
+ * bench LEDGER ROW   one round of one row, to count its instructions: LEDGER is library, gcc or clang
  *
  * A row is a call, the image that it finds and what it returns. A new one is a line of `rows`, and a function that
- * fills its image if neither of the two here will do.
+ * fills its image if neither of the two here will do. An entry of another form is a field more of `ledgers`, and is
+ * called in one_round.
  */
 #define _POSIX_C_SOURCE 200809L
 
@@ -31,7 +32,7 @@ static const struct ledger {
     const char *name;
     ledger_call *call;
 } ledgers[] = {
-    {"crz", crz_call},
+    {"library", crz_call},
     {"gcc", plain_gcc_call},
 #ifndef WITHOUT_CLANG
     {"clang", plain_clang_call},

@@ -1,6 +1,6 @@
 /*
- * Buffers of the named lengths and those beside them in every combination, between painted bytes, with their ends and
- * with their begins at a wall, and a length of 0 also at a null pointer: what is returned, what is written, and that no
+ * Buffers of the named lengths and those beside them in every combination, between painted bytes, ending at a
+ * wall and starting at one, and a length of 0 also at a null pointer: what is returned, what is written, and that no
  * byte outside a buffer is touched. The last line is 'N passed, M failed'.
  */
 #include "../include/crz.h"

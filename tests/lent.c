@@ -50,7 +50,7 @@ void lend(struct lent *lent, enum lent_place place, size_t len)
     lent->len = len;
     switch (place) {
     case LENT_END_AT_WALL: lent->bytes = lent->room + room_length() - len; break;
-    case LENT_BEGIN_AT_WALL: lent->bytes = lent->room; break;
+    case LENT_START_AT_WALL: lent->bytes = lent->room; break;
     default: lent->bytes = lent->room + PAINTED + 1;
     }
     memset(lent->bytes - painted_before(lent), PAINT, painted_before(lent));

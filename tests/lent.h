@@ -9,8 +9,8 @@
 #include <stddef.h>
 #include <stdint.h>
 
-/* where a buffer stands: at an odd address between painted bytes, with its end at a wall, with its begin at a wall */
-enum lent_place { LENT_BETWEEN, LENT_END_AT_WALL, LENT_BEGIN_AT_WALL, LENT_PLACES };
+/* where a buffer stands: at an odd address between painted bytes, ending at a wall, starting at a wall */
+enum lent_place { LENT_BETWEEN, LENT_END_AT_WALL, LENT_START_AT_WALL, LENT_PLACES };
 
 enum { LENT_MOST = 1 << 16 }; /* bytes of a buffer */
 

@@ -1,6 +1,6 @@
 /*
  * The vectors through the C boundary: number, image and answer of every call, the buffers standing between painted
- * bytes, with their ends and with their begins at a wall. Usage: vectors LIST. The last line is 'N passed, M failed'.
+ * bytes, ending at a wall and starting at one. Usage: vectors LIST. The last line is 'N passed, M failed'.
  */
 #include "../include/crz.h"
 #include "lent.h"
@@ -9,7 +9,7 @@
 #include <stdio.h>
 #include <string.h>
 
-static const char *const place_names[LENT_PLACES] = {"between painted bytes", "ends at walls", "begins at walls"};
+static const char *const place_names[LENT_PLACES] = {"between painted bytes", "ending at walls", "starting at walls"};
 
 static enum lent_place place;
 static struct lent image, call, answer;
