@@ -1,12 +1,15 @@
 /*
- * Time per call of the library and of the plain C ledger (plain.c), through one interface in one run: for each case the least time of
- * many rounds, a round being one call on each of a few images in the same state.
+ * Time per call of the library and of the plain C ledger (plain.c, once from each compiler), through one interface in
+ * one run: for each row the least time of many rounds, a round being one call on each of a few images in the same
+ * state. All rows are swept several times, so that a slow moment of the machine does not meet one row alone.
  *
- * The busy image has 128 lots in all eight states and money in every account. The idle image has one receipt listed and the money for
- * one bid on it in one account; all else is empty.
+ * bench              the table of times; the ratio is the library's to the faster of the plain ones
+ * bench rows         the names of the rows
+ * bench LEDGER ROW   one round of one row, to count its instructions: LEDGER is library, gcc or clang
  *
- * bench               the table of times
- * bench LEDGER CASE   one round of one case, to count its instructions: LEDGER is crz or plain, CASE a row of the table
+ * A row is a call, the image that it finds and what it returns. A new one is a line of `rows`, and a function that
+ * fills its image if neither of the two here will do. An entry of another form is a field more of `ledgers`, and is
+ * called in one_round.
  */
 #define _POSIX_C_SOURCE 200809L
 
@@ -15,130 +18,133 @@
 #include <string.h>
 #include <time.h>
 
-#include "../host/bytes.h"
-#include "../include/crz.h"
+#include "../include/crz_records.h"
 
-typedef uint32_t ledger(uint8_t *image, size_t image_len, const uint8_t *call, size_t call_len, uint8_t *answer, size_t answer_len);
-ledger plain_call;
+typedef uint32_t ledger_call(
+    uint8_t *image, size_t image_len, const uint8_t *call, size_t call_len, uint8_t *answer, size_t answer_len);
+ledger_call plain_gcc_call, plain_clang_call;
 
-enum { IMAGES = 16, ROUNDS = 3000, DAY = 5, DEPOSIT = 5000000, PRICE = 15000, WEIGHT = 41237, CONFIRMED = 1000, PAID = 100 };
+enum { IMAGES = 16, ROUNDS = 1000, SWEEPS = 10, DAY = 5, PRICE = 15000, WEIGHT = 41237, CONFIRMED = 1000, PAID = 100 };
 enum { LOT = 3, BIDDER = 90 };
 
-struct row {
+/* the library comes first */
+static const struct ledger {
     const char *name;
-    int busy;
-    uint8_t kind, account, receipt, contract;
-    uint64_t amount;
-    uint32_t number; /* what is returned */
+    ledger_call *call;
+} ledgers[] = {
+    {"library", crz_call},
+    {"gcc", plain_gcc_call},
+#ifndef WITHOUT_CLANG
+    {"clang", plain_clang_call},
+#endif
 };
 
-/* On the busy image LOT has a standing bid at PRICE, of contract 1; on the idle one it is listed. */
-static const struct row rows[] = {
-    {"quote, busy", 1, CRZ_QUOTE, 0, 0, 1, PRICE, CRZ_ACCEPTED},
-    {"quote, idle", 0, CRZ_QUOTE, 0, 0, 1, PRICE, CRZ_ACCEPTED},
-    {"pay in, busy", 1, CRZ_PAY_IN, 1, 0, 0, 100, CRZ_ACCEPTED},
-    {"pay in, idle", 0, CRZ_PAY_IN, 1, 0, 0, 100, CRZ_ACCEPTED},
-    {"limit bid, busy", 1, CRZ_LIMIT_BID, BIDDER, LOT, 0, PRICE + 5, CRZ_ACCEPTED},
-    {"limit bid, idle", 0, CRZ_LIMIT_BID, BIDDER, LOT, 0, PRICE + 5, CRZ_ACCEPTED},
-    {"morning close, busy", 1, CRZ_MORNING_CLOSE, 0, 0, 0, 0, CRZ_ACCEPTED},
-    {"morning close, idle", 0, CRZ_MORNING_CLOSE, 0, 0, 0, 0, CRZ_ACCEPTED},
-    {"refusal 6, busy", 1, CRZ_LODGE, 1, 1, 0, 0, CRZ_WRONG_STATE},
-    {"refusal 6, idle", 0, CRZ_LODGE, 1, 1, 0, 0, CRZ_WRONG_STATE},
-};
+enum { LEDGERS = sizeof ledgers / sizeof ledgers[0] };
 
-static uint8_t images[IMAGES][CRZ_IMAGE_LENGTH];
+/* ── Images ────────────────────────────────────────────────────────────────────────────────────── */
 
 static void add_to(uint8_t *at, uint64_t amount)
 {
-    put_number(at, 8, get_number(at, 8) + amount);
+    crz_put_u64(at, crz_get_u64(at) + amount);
 }
 
-/* What a lot in that state holds from its buyer. */
-static uint64_t held(unsigned state, uint64_t full)
+static void put_money(uint8_t *image, unsigned account, uint64_t fen)
 {
-    if (state >= CRZ_STATE_BID_STANDS && state <= CRZ_STATE_LODGED)
-        return DEPOSIT;
-    if (state == CRZ_STATE_SETTLED)
-        return full;
-    return state == CRZ_STATE_FIRST_PAID ? full - full * 80 / 100 - PAID : 0;
+    add_to(image + crz_account_offset(account) + CRZ_ACCOUNT_FREE, fen);
+    add_to(image + CRZ_IMAGE_TOTAL, fen);
 }
 
 static void put_trade(uint8_t *receipt, unsigned state, unsigned buyer)
 {
     if (state >= CRZ_STATE_BID_STANDS) {
         receipt[CRZ_RECEIPT_BUYER] = (uint8_t)buyer;
-        put_number(receipt + CRZ_RECEIPT_PRICE, 4, state == CRZ_STATE_PENALTY_DUE ? 0 : PRICE);
+        crz_put_u32(receipt + CRZ_RECEIPT_PRICE, state == CRZ_STATE_PENALTY_DUE ? 0 : PRICE);
     }
     if (state >= CRZ_STATE_STRUCK)
-        put_number(receipt + CRZ_RECEIPT_DUE, 2, DAY);
+        crz_put_u16(receipt + CRZ_RECEIPT_DUE, DAY);
     if (state == CRZ_STATE_FIRST_PAID) {
-        put_number(receipt + CRZ_RECEIPT_CONFIRMED, 4, CONFIRMED);
-        put_number(receipt + CRZ_RECEIPT_PAID, 4, PAID);
+        crz_put_u32(receipt + CRZ_RECEIPT_CONFIRMED, CONFIRMED);
+        crz_put_u32(receipt + CRZ_RECEIPT_PAID, PAID);
     }
 }
 
-/* Contracts change every eight lots. */
-static void put_receipt(uint8_t *image, unsigned r, unsigned state)
+/* contracts change every eight lots */
+static void put_terms(uint8_t *receipt, unsigned number)
 {
-    uint8_t *receipt = image + CRZ_IMAGE_RECEIPTS + CRZ_RECEIPT_LENGTH * r;
-    unsigned seller = 1 + r % 48, buyer = 49 + r % 48;
+    receipt[CRZ_RECEIPT_CONTRACT] = (uint8_t)(1 + (number - 1) / 8 % 8);
+    receipt[CRZ_RECEIPT_DAYS] = (uint8_t)((number - 1) % 4);
+}
+
+static void put_receipt(uint8_t *image, unsigned number, unsigned state)
+{
+    uint8_t *receipt = image + crz_receipt_offset(number);
+    unsigned seller = 1 + (number - 1) % 48, buyer = 49 + (number - 1) % 48;
     int bought = state == CRZ_STATE_SETTLED || state == CRZ_STATE_FIRST_PAID;
-    uint64_t money = held(state, ((uint64_t)PRICE * WEIGHT + 5) / 10);
+    struct crz_receipt_fields fields;
     receipt[CRZ_RECEIPT_OWNER] = (uint8_t)(bought ? buyer : seller);
     receipt[CRZ_RECEIPT_STATE] = (uint8_t)state;
-    put_number(receipt + CRZ_RECEIPT_WEIGHT, 4, WEIGHT);
+    crz_put_u32(receipt + CRZ_RECEIPT_WEIGHT, WEIGHT);
     if (state != CRZ_STATE_IDLE)
         receipt[CRZ_RECEIPT_SELLER] = (uint8_t)seller;
-    if (state != CRZ_STATE_IDLE && state != CRZ_STATE_PENALTY_DUE) {
-        receipt[CRZ_RECEIPT_CONTRACT] = (uint8_t)(1 + r / 8 % 8);
-        receipt[CRZ_RECEIPT_DAYS] = (uint8_t)(r % 4);
-    }
+    if (state != CRZ_STATE_IDLE && state != CRZ_STATE_PENALTY_DUE)
+        put_terms(receipt, number);
     put_trade(receipt, state, buyer);
-    add_to(image + CRZ_IMAGE_ACCOUNTS + CRZ_ACCOUNT_LENGTH * (buyer - 1) + CRZ_ACCOUNT_FROZEN, money);
-    add_to(image + CRZ_IMAGE_TOTAL, money);
-}
-
-static void put_money(uint8_t *image, unsigned account, uint64_t fen)
-{
-    add_to(image + CRZ_IMAGE_ACCOUNTS + CRZ_ACCOUNT_LENGTH * (account - 1) + CRZ_ACCOUNT_FREE, fen);
-    add_to(image + CRZ_IMAGE_TOTAL, fen);
+    fields = crz_get_receipt(image, number);
+    add_to(image + crz_account_offset(buyer) + CRZ_ACCOUNT_FROZEN, crz_held_money(&fields));
+    add_to(image + CRZ_IMAGE_TOTAL, crz_held_money(&fields));
 }
 
 static void fill_accounts(uint8_t *image)
 {
-    for (unsigned a = 1; a <= CRZ_ACCOUNTS; a++)
-        put_money(image, a, 1000000000 + a);
+    unsigned account;
+    for (account = 1; account <= CRZ_ACCOUNT_COUNT; account++)
+        put_money(image, account, 1000000000 + account);
 }
 
-/* Lots in all eight states by turns. */
-static void fill_receipts(uint8_t *image)
+/* 128 lots in all eight states by turns, and money in every account */
+static void busy(uint8_t *image)
 {
-    for (unsigned r = 0; r < CRZ_RECEIPTS; r++)
-        put_receipt(image, r, r % 8);
+    unsigned number;
+    fill_accounts(image);
+    for (number = 1; number <= CRZ_RECEIPT_COUNT; number++)
+        put_receipt(image, number, (number - 1) % 8);
 }
 
-static void make_image(uint8_t *image, int busy)
+/* one receipt listed and the money for one bid on it in one account; all else is empty */
+static void idle(uint8_t *image)
 {
-    crz_fresh(image, CRZ_IMAGE_LENGTH);
-    put_number(image + CRZ_IMAGE_DAY, 2, DAY);
-    if (busy) {
-        fill_accounts(image);
-        fill_receipts(image);
-        return;
-    }
-    put_receipt(image, LOT - 1, CRZ_STATE_LISTED);
-    put_money(image, BIDDER, DEPOSIT);
+    put_receipt(image, LOT, CRZ_STATE_LISTED);
+    put_money(image, BIDDER, CRZ_DEPOSIT);
 }
 
-static void make_call(uint8_t *call, const struct row *row)
-{
-    memset(call, 0, CRZ_CALL_LENGTH);
-    call[CRZ_CALL_KIND] = row->kind;
-    call[CRZ_CALL_ACCOUNT] = row->account;
-    call[CRZ_CALL_RECEIPT] = row->receipt;
-    call[CRZ_CALL_CONTRACT] = row->contract;
-    put_number(call + CRZ_CALL_AMOUNT, 8, row->amount);
-}
+/* ── Rows ──────────────────────────────────────────────────────────────────────────────────────── */
+
+struct row {
+    const char *name;
+    void (*fill)(uint8_t *image);
+    enum crz_kind kind;
+    uint8_t account, receipt, contract;
+    uint64_t amount;
+    uint32_t number; /* what is returned */
+};
+
+/* on the busy image LOT has a standing bid at PRICE, of contract 1; on the idle one it is listed */
+static const struct row rows[] = {
+    {"quote, busy", busy, CRZ_KIND_QUOTE, 0, 0, 1, PRICE, CRZ_NUMBER_ACCEPTED},
+    {"quote, idle", idle, CRZ_KIND_QUOTE, 0, 0, 1, PRICE, CRZ_NUMBER_ACCEPTED},
+    {"pay in, busy", busy, CRZ_KIND_PAY_IN, 1, 0, 0, 100, CRZ_NUMBER_ACCEPTED},
+    {"pay in, idle", idle, CRZ_KIND_PAY_IN, 1, 0, 0, 100, CRZ_NUMBER_ACCEPTED},
+    {"limit bid, busy", busy, CRZ_KIND_LIMIT_BID, BIDDER, LOT, 0, PRICE + 5, CRZ_NUMBER_ACCEPTED},
+    {"limit bid, idle", idle, CRZ_KIND_LIMIT_BID, BIDDER, LOT, 0, PRICE + 5, CRZ_NUMBER_ACCEPTED},
+    {"morning close, busy", busy, CRZ_KIND_MORNING_CLOSE, 0, 0, 0, 0, CRZ_NUMBER_ACCEPTED},
+    {"morning close, idle", idle, CRZ_KIND_MORNING_CLOSE, 0, 0, 0, 0, CRZ_NUMBER_ACCEPTED},
+    {"refusal, busy", busy, CRZ_KIND_LODGE, 1, 1, 0, 0, CRZ_NUMBER_WRONG_STATE},
+    {"refusal, idle", idle, CRZ_KIND_LODGE, 1, 1, 0, 0, CRZ_NUMBER_WRONG_STATE},
+};
+
+enum { ROWS = sizeof rows / sizeof rows[0] };
+
+/* ── Rounds ────────────────────────────────────────────────────────────────────────────────────── */
 
 static double now(void)
 {
@@ -147,49 +153,146 @@ static double now(void)
     return (double)t.tv_sec * 1e9 + (double)t.tv_nsec;
 }
 
-/* Nanoseconds per call of one round. */
-static double one_round(ledger *call_it, const struct row *row, const uint8_t *start)
+static void prepare(const struct row *row, uint8_t *image, uint8_t *call)
 {
-    static uint8_t call[CRZ_CALL_LENGTH], answer[CRZ_ANSWER_LENGTH];
-    make_call(call, row);
-    for (int i = 0; i < IMAGES; i++)
-        memcpy(images[i], start, CRZ_IMAGE_LENGTH);
-    double before = now();
-    for (int i = 0; i < IMAGES; i++)
-        if (call_it(images[i], CRZ_IMAGE_LENGTH, call, sizeof call, answer, sizeof answer) != row->number) {
-            fprintf(stderr, "%s: returned another number than %u\n", row->name, (unsigned)row->number);
-            exit(1);
-        }
-    return (now() - before) / IMAGES;
+    crz_fresh(image, CRZ_IMAGE_LENGTH);
+    crz_put_u16(image + CRZ_IMAGE_DAY, DAY);
+    row->fill(image);
+    crz_put_plain_call(call, row->kind, row->account, row->receipt, row->amount);
+    call[CRZ_CALL_CONTRACT] = row->contract;
 }
 
-/* The two take turns, so that both meet the same moods of the machine. */
-static void print_row(const struct row *row)
+static uint8_t images[IMAGES][CRZ_IMAGE_LENGTH];
+
+static void copy_images(const uint8_t *image)
 {
-    static uint8_t start[CRZ_IMAGE_LENGTH];
-    double crz = 1e30, plain = 1e30;
-    make_image(start, row->busy);
-    for (int i = 0; i < ROUNDS; i++) {
-        double a = one_round(crz_call, row, start), b = one_round(plain_call, row, start);
-        crz = a < crz ? a : crz;
-        plain = b < plain ? b : plain;
+    int i;
+    for (i = 0; i < IMAGES; i++)
+        memcpy(images[i], image, CRZ_IMAGE_LENGTH);
+}
+
+/* nanoseconds per call of one round */
+static double one_round(const struct ledger *ledger, const struct row *row, const uint8_t *image, const uint8_t *call)
+{
+    static uint8_t answer[CRZ_ANSWER_LENGTH];
+    uint32_t other = 0;
+    double start, took;
+    int i;
+    copy_images(image);
+    start = now();
+    for (i = 0; i < IMAGES; i++)
+        other |=
+            row->number ^ ledger->call(images[i], CRZ_IMAGE_LENGTH, call, CRZ_CALL_LENGTH, answer, CRZ_ANSWER_LENGTH);
+    took = now() - start;
+    if (other != 0) {
+        fprintf(stderr, "%s, %s: returned another number than %u\n", row->name, ledger->name, (unsigned)row->number);
+        exit(1);
     }
-    printf("%-22s %10.0f %10.0f %8.1f\n", row->name, crz, plain, crz / plain);
+    return took / IMAGES;
+}
+
+/* least time of each row and ledger so far, 0 before the first */
+static double least[ROWS][LEDGERS];
+
+/* the ledgers take turns, so that all meet the same moods of the machine */
+static void measure(int row)
+{
+    uint8_t image[CRZ_IMAGE_LENGTH], call[CRZ_CALL_LENGTH];
+    int i;
+    prepare(&rows[row], image, call);
+    for (i = 0; i < ROUNDS * LEDGERS; i++) {
+        double took = one_round(&ledgers[i % LEDGERS], &rows[row], image, call), *best = &least[row][i % LEDGERS];
+        if (*best == 0 || took < *best)
+            *best = took;
+    }
+}
+
+static void sweep(void)
+{
+    int row;
+    for (row = 0; row < ROWS; row++)
+        measure(row);
+}
+
+static void print_row(int row)
+{
+    double faster = least[row][1];
+    int i;
+    printf("%-22s", rows[row].name);
+    for (i = 0; i < LEDGERS; i++) {
+        printf(" %8.0f", least[row][i]);
+        if (i > 0 && least[row][i] < faster)
+            faster = least[row][i];
+    }
+    printf(" %8.1f\n", least[row][0] / faster);
+}
+
+static void print_heads(void)
+{
+    int i;
+    printf("%-22s", "ns per call, least");
+    for (i = 0; i < LEDGERS; i++)
+        printf(" %8s", ledgers[i].name);
+    printf(" %8s\n", "ratio");
+}
+
+/* ── Ways to be called ─────────────────────────────────────────────────────────────────────────── */
+
+static const struct ledger *ledger_named(const char *name)
+{
+    int i = 0;
+    while (i < LEDGERS && strcmp(ledgers[i].name, name) != 0)
+        i++;
+    return i < LEDGERS ? &ledgers[i] : NULL;
+}
+
+static const struct row *row_named(const char *name)
+{
+    int i = 0;
+    while (i < ROWS && strcmp(rows[i].name, name) != 0)
+        i++;
+    return i < ROWS ? &rows[i] : NULL;
+}
+
+static int one_round_of(const char *ledger_name, const char *row_name)
+{
+    const struct ledger *ledger = ledger_named(ledger_name);
+    const struct row *row = row_named(row_name);
+    uint8_t image[CRZ_IMAGE_LENGTH], call[CRZ_CALL_LENGTH];
+    if (ledger == NULL || row == NULL) {
+        fprintf(stderr, "bench: no ledger %s or no row %s\n", ledger_name, row_name);
+        return 2;
+    }
+    prepare(row, image, call);
+    one_round(ledger, row, image, call);
+    return 0;
+}
+
+static int print_names(void)
+{
+    int row;
+    for (row = 0; row < ROWS; row++)
+        puts(rows[row].name);
+    return 0;
+}
+
+static void sweep_all(void)
+{
+    int i;
+    for (i = 0; i < SWEEPS; i++)
+        sweep();
 }
 
 int main(int argc, char **argv)
 {
-    static uint8_t start[CRZ_IMAGE_LENGTH];
-    size_t count = sizeof rows / sizeof rows[0];
-    if (argc == 1)
-        printf("%-22s %10s %10s %8s\n", "ns per call, least", "crz", "plain C", "ratio");
-    for (size_t i = 0; i < count; i++) {
-        if (argc == 1)
-            print_row(&rows[i]);
-        if (argc == 3 && strcmp(argv[2], rows[i].name) == 0) {
-            make_image(start, rows[i].busy);
-            one_round(strcmp(argv[1], "plain") == 0 ? plain_call : crz_call, &rows[i], start);
-        }
-    }
+    int row;
+    if (argc == 3)
+        return one_round_of(argv[1], argv[2]);
+    if (argc == 2 && strcmp(argv[1], "rows") == 0)
+        return print_names();
+    sweep_all();
+    print_heads();
+    for (row = 0; row < ROWS; row++)
+        print_row(row);
     return 0;
 }

@@ -3,169 +3,187 @@
 #include <inttypes.h>
 #include <stdio.h>
 
-#include "bytes.h"
+#include "digits.h"
+#include "reason.h"
 
-static const char *const refusals[] = {
-    [CRZ_SHORT_ANSWER] = "answer buffer too short",
-    [CRZ_BAD_IMAGE] = "the image is not valid",
-    [CRZ_BAD_CALL] = "the call record is not valid",
-    [CRZ_OUT_OF_RANGE] = "a field is out of range",
-    [CRZ_WRONG_PHASE] = "not in this phase of the day",
-    [CRZ_WRONG_STATE] = "the receipt is not in a state for this call",
-    [CRZ_WRONG_PARTY] = "not the party that may make this call",
-    [CRZ_NOT_ABOVE] = "not above the standing bid",
-    [CRZ_NO_ASK] = "the contract has no ask",
-    [CRZ_NOTHING_TO_PAY] = "price and basis leave nothing to pay",
-    [CRZ_NO_MONEY] = "not enough free money",
-    [CRZ_OVER_LIMIT] = "the zone's total would pass its limit",
-    [CRZ_OVER_INVOICE] = "the invoice is above what is left to invoice",
+static const struct outcome_words outcomes[] = {
+    [CRZ_OUTCOME_REGISTERED] = {"registered", "owner", NULL, UNIT_NONE},
+    [CRZ_OUTCOME_LISTED] = {"listed", "seller", NULL, UNIT_NONE},
+    [CRZ_OUTCOME_ENDED] = {"listing ended", "seller", NULL, UNIT_NONE},
+    [CRZ_OUTCOME_BID_STANDS] = {"bid stands", "buyer", "seller", UNIT_YUAN},
+    [CRZ_OUTCOME_BID_WITHDRAWN] = {"bid withdrawn", "buyer", "seller", UNIT_NONE},
+    [CRZ_OUTCOME_STRUCK] = {"struck", "buyer", "seller", UNIT_YUAN},
+    [CRZ_OUTCOME_LODGED] = {"lodged", "seller", "buyer", UNIT_NONE},
+    [CRZ_OUTCOME_SETTLED] = {"settled", "buyer", "seller", UNIT_FEN},
+    [CRZ_OUTCOME_FIRST_PAID] = {"first payment", "buyer", "seller", UNIT_FEN},
+    [CRZ_OUTCOME_INVOICED] = {"invoiced", "seller", "buyer", UNIT_FEN},
+    [CRZ_OUTCOME_PART_PAID] = {"part paid", "buyer", "seller", UNIT_FEN},
+    [CRZ_OUTCOME_BUYER_DEFAULT] = {"buyer default", "buyer", "seller", UNIT_FEN},
+    [CRZ_OUTCOME_SELLER_DEFAULT] = {"seller default", "seller", "buyer", UNIT_NONE},
+    [CRZ_OUTCOME_BOTH_DEFAULTED] = {"both defaulted", "buyer", "seller", UNIT_NONE},
+    [CRZ_OUTCOME_PENALTY] = {"penalty", "seller", "buyer", UNIT_FEN},
 };
 
-enum unit { NOTHING, FEN, YUAN };
-
-struct outcome {
-    const char *word;
-    const char *from;
-    const char *to; /* NULL for nobody */
-    enum unit unit;
-};
-
-static const struct outcome outcomes[] = {
-    [CRZ_REGISTERED] = {"registered", "owner", NULL, NOTHING},
-    [CRZ_LISTED] = {"listed", "seller", NULL, NOTHING},
-    [CRZ_ENDED] = {"listing ended", "seller", NULL, NOTHING},
-    [CRZ_BID_STANDS] = {"bid stands", "buyer", "seller", YUAN},
-    [CRZ_BID_WITHDRAWN] = {"bid withdrawn", "buyer", "seller", NOTHING},
-    [CRZ_STRUCK] = {"struck", "buyer", "seller", YUAN},
-    [CRZ_LODGED] = {"lodged", "seller", "buyer", NOTHING},
-    [CRZ_SETTLED] = {"settled", "buyer", "seller", FEN},
-    [CRZ_FIRST_PAID] = {"first payment", "buyer", "seller", FEN},
-    [CRZ_INVOICED] = {"invoiced", "seller", "buyer", FEN},
-    [CRZ_PART_PAID] = {"part paid", "buyer", "seller", FEN},
-    [CRZ_BUYER_DEFAULT] = {"buyer default", "buyer", "seller", FEN},
-    [CRZ_SELLER_DEFAULT] = {"seller default", "seller", "buyer", NOTHING},
-    [CRZ_BOTH_DEFAULTED] = {"both defaulted", "buyer", "seller", NOTHING},
-    [CRZ_PENALTY] = {"penalty", "seller", "buyer", FEN},
-};
-
-static const char *const states[] = {
-    [CRZ_STATE_IDLE] = "idle",
-    [CRZ_STATE_LISTED] = "listed",
-    [CRZ_STATE_BID_STANDS] = "bid stands",
-    [CRZ_STATE_STRUCK] = "struck",
-    [CRZ_STATE_LODGED] = "lodged",
-    [CRZ_STATE_SETTLED] = "settled",
-    [CRZ_STATE_FIRST_PAID] = "first paid",
-    [CRZ_STATE_PENALTY_DUE] = "penalty due",
-};
-
-/* Thousands apart, as a clerk reads them. */
-struct digits {
-    char text[32];
-};
-
-static struct digits grouped(uint64_t n)
+const struct outcome_words *outcome_of(uint32_t outcome)
 {
-    struct digits d = {{0}};
-    char plain[24];
-    int count = snprintf(plain, sizeof plain, "%" PRIu64, n);
-    char *at = d.text;
-    for (int i = 0; i < count; i++) {
-        if (i > 0 && (count - i) % 3 == 0)
-            *at++ = ',';
-        *at++ = plain[i];
+    return outcome >= 1 && outcome < sizeof outcomes / sizeof outcomes[0] ? &outcomes[outcome] : NULL;
+}
+
+const char *phase_words(uint32_t phase)
+{
+    return phase == CRZ_PHASE_MORNING ? "morning" : "afternoon";
+}
+
+/* ── Answers ───────────────────────────────────────────────────────────────────────────────────── */
+
+static void print_entry(const struct crz_entry_fields *entry)
+{
+    const struct outcome_words *o = outcome_of(entry->outcome);
+    if (o == NULL) {
+        printf("    lot %u: outcome %u\n", entry->lot, entry->outcome);
+        return;
     }
-    return d;
-}
-
-static const char *phase_word(uint8_t phase)
-{
-    return phase == 0 ? "morning" : "afternoon";
-}
-
-static void print_entry(const uint8_t *entry)
-{
-    const struct outcome *o = &outcomes[entry[CRZ_ENTRY_OUTCOME]];
-    uint64_t number = get_number(entry + CRZ_ENTRY_NUMBER, 4);
-    printf("  lot %u: %s, %s %u", entry[CRZ_ENTRY_LOT], o->word, o->from, entry[CRZ_ENTRY_FROM]);
+    printf("    lot %u: %s, %s %u", entry->lot, o->word, o->from, entry->from);
     if (o->to != NULL)
-        printf(", %s %u", o->to, entry[CRZ_ENTRY_TO]);
-    if (o->unit == FEN)
-        printf(", %s fen", grouped(number).text);
-    if (o->unit == YUAN)
-        printf(", %s yuan per tonne", grouped(number).text);
+        printf(", %s %u", o->to, entry->to);
+    if (o->unit == UNIT_FEN)
+        printf(", %s fen", grouped(entry->number).text);
+    if (o->unit == UNIT_YUAN)
+        printf(", %s yuan per tonne", grouped(entry->number).text);
     putchar('\n');
 }
 
-void print_answer(uint32_t number, const uint8_t answer[CRZ_ANSWER_LENGTH])
+static void print_entries(const uint8_t *answer)
 {
-    if (number != CRZ_ACCEPTED) {
-        printf("refused %" PRIu32 ": %s\n", number, refusals[number]);
+    uint32_t count = crz_get_answer(answer).count;
+    for (uint32_t i = 0; i < count; i++) {
+        struct crz_entry_fields entry = crz_get_entry(answer, i);
+        print_entry(&entry);
+    }
+}
+
+static void print_after(const uint8_t *answer)
+{
+    struct crz_answer_fields head = crz_get_answer(answer);
+    printf(": %s, total %s fen\n", phase_words(head.phase), grouped(head.total).text);
+    print_entries(answer);
+}
+
+void print_made(const struct line *line, const uint8_t found[CRZ_IMAGE_LENGTH])
+{
+    char seen[REASON_LENGTH];
+    if (line->number == CRZ_NUMBER_ACCEPTED) {
+        printf("accepted, sequence %" PRIu64, line->sequence);
+        print_after(line->answer);
         return;
     }
-    printf("accepted: %s, total %s fen\n", phase_word(answer[CRZ_ANSWER_PHASE]), grouped(get_number(answer + CRZ_ANSWER_TOTAL, 8)).text);
-    unsigned count = (unsigned)get_number(answer + CRZ_ANSWER_COUNT, 2);
-    for (unsigned i = 0; i < count; i++)
-        print_entry(answer + CRZ_FIRST_ENTRY + CRZ_ENTRY_LENGTH * i);
+    reason_seen(line->number, line->call, found, seen);
+    printf("refused %" PRIu32 ", sequence %" PRIu64 ": %s%s%s\n", line->number, line->sequence, reason_of(line->number),
+        seen[0] == '\0' ? "" : ": ", seen);
 }
+
+/* ── The journal ───────────────────────────────────────────────────────────────────────────────── */
+
+static void print_start(const struct line *line)
+{
+    if (line->has_further && line->further_length == CRZ_IMAGE_LENGTH)
+        printf("start with an imported image: day %s, %s, total %s fen\n", grouped(crz_get_day(line->further)).text,
+            phase_words(crz_get_phase(line->further)), grouped(crz_get_total(line->further)).text);
+    else
+        puts("start with a fresh zone");
+}
+
+void print_line(const struct line *line)
+{
+    printf("%" PRIu64 "  %s  ", line->sequence, line->time);
+    if (line->sequence == 0) {
+        print_start(line);
+        return;
+    }
+    print_call(line->call);
+    if (line->number == CRZ_NUMBER_ACCEPTED) {
+        printf("\n    accepted");
+        print_after(line->answer);
+    } else {
+        printf("\n    refused %" PRIu32 ": %s\n", line->number, reason_of(line->number));
+    }
+}
+
+/* ── Zones ─────────────────────────────────────────────────────────────────────────────────────── */
 
 static void print_asks(const uint8_t *image)
 {
-    for (unsigned k = 0; k < CRZ_CONTRACTS; k++) {
-        uint64_t ask = get_number(image + CRZ_IMAGE_ASKS + 4 * k, 4);
+    for (uint32_t k = 1; k <= CRZ_CONTRACT_COUNT; k++) {
+        uint32_t ask = crz_get_ask(image, k);
         if (ask != 0)
-            printf("  contract %u: ask %s yuan per tonne\n", k + 1, grouped(ask).text);
+            printf("  contract %u: ask %s yuan per tonne\n", k, grouped(ask).text);
     }
 }
 
 static void print_accounts(const uint8_t *image)
 {
     printf("  %-8s %22s %22s\n", "account", "free fen", "frozen fen");
-    for (unsigned a = 0; a < CRZ_ACCOUNTS; a++) {
-        const uint8_t *account = image + CRZ_IMAGE_ACCOUNTS + CRZ_ACCOUNT_LENGTH * a;
-        uint64_t free_money = get_number(account + CRZ_ACCOUNT_FREE, 8), frozen = get_number(account + CRZ_ACCOUNT_FROZEN, 8);
-        if (free_money != 0 || frozen != 0)
-            printf("  %-8u %22s %22s\n", a + 1, grouped(free_money).text, grouped(frozen).text);
+    for (uint32_t a = 1; a <= CRZ_ACCOUNT_COUNT; a++) {
+        struct crz_account_fields has = crz_get_account(image, a);
+        if (has.free != 0 || has.frozen != 0)
+            printf("  %-8u %22s %22s\n", a, grouped(has.free).text, grouped(has.frozen).text);
     }
 }
 
-static void print_trade(const uint8_t *receipt)
+static void print_parties(const struct crz_receipt_fields *r)
 {
-    if (receipt[CRZ_RECEIPT_SELLER] != 0)
-        printf(", seller %u", receipt[CRZ_RECEIPT_SELLER]);
-    if (receipt[CRZ_RECEIPT_BUYER] != 0)
-        printf(", buyer %u", receipt[CRZ_RECEIPT_BUYER]);
-    if (receipt[CRZ_RECEIPT_CONTRACT] != 0)
-        printf(", contract %u, days %u, basis %" PRId64 " yuan", receipt[CRZ_RECEIPT_CONTRACT], receipt[CRZ_RECEIPT_DAYS],
-            get_signed(receipt + CRZ_RECEIPT_BASIS));
-    if (get_number(receipt + CRZ_RECEIPT_PRICE, 4) != 0)
-        printf(", price %s yuan", grouped(get_number(receipt + CRZ_RECEIPT_PRICE, 4)).text);
-    if (get_number(receipt + CRZ_RECEIPT_DUE, 2) != 0)
-        printf(", due day %s", grouped(get_number(receipt + CRZ_RECEIPT_DUE, 2)).text);
-    if (receipt[CRZ_RECEIPT_STATE] == CRZ_STATE_FIRST_PAID)
-        printf(", pending %s, confirmed %s, paid %s fen", grouped(get_number(receipt + CRZ_RECEIPT_PENDING, 4)).text,
-            grouped(get_number(receipt + CRZ_RECEIPT_CONFIRMED, 4)).text, grouped(get_number(receipt + CRZ_RECEIPT_PAID, 4)).text);
+    if (r->seller != 0)
+        printf(", seller %u", r->seller);
+    if (r->buyer != 0)
+        printf(", buyer %u", r->buyer);
+    if (r->due != 0)
+        printf(", due day %s", grouped(r->due).text);
+    putchar('\n');
 }
 
-static void print_lots(const uint8_t *image, unsigned state)
+static void print_terms(const struct crz_receipt_fields *r)
 {
-    for (unsigned r = 0; r < CRZ_RECEIPTS; r++) {
-        const uint8_t *receipt = image + CRZ_IMAGE_RECEIPTS + CRZ_RECEIPT_LENGTH * r;
-        if (receipt[CRZ_RECEIPT_OWNER] == 0 || receipt[CRZ_RECEIPT_STATE] != state)
+    if (r->contract == 0)
+        return;
+    printf("      contract %u, days %u, basis %s yuan per tonne", r->contract, r->days, grouped_signed(r->basis).text);
+    if (r->price != 0)
+        printf(", price %s yuan per tonne", grouped(r->price).text);
+    putchar('\n');
+}
+
+static void print_money(const struct crz_receipt_fields *r)
+{
+    uint64_t full = crz_full_payment(r);
+    if (r->price != 0)
+        printf("      full payment %s fen, rest %s fen, held from the buyer %s fen\n", grouped(full).text,
+            grouped(crz_rest_payment(r)).text, grouped(crz_held_money(r)).text);
+    if (r->state == CRZ_STATE_FIRST_PAID)
+        printf("      of the rest paid %s fen, invoices confirmed %s fen, pending %s fen, left to invoice %s fen\n",
+            grouped(r->paid).text, grouped(r->confirmed).text, grouped(r->pending).text,
+            grouped(full - r->confirmed - r->pending).text);
+    if (r->state == CRZ_STATE_PENALTY_DUE)
+        printf("      the seller owes the buyer up to %s fen\n", grouped(CRZ_PENALTY).text);
+}
+
+static void print_lots(const uint8_t *image, uint32_t state)
+{
+    for (uint32_t n = 1; n <= CRZ_RECEIPT_COUNT; n++) {
+        struct crz_receipt_fields r = crz_get_receipt(image, n);
+        if (r.owner == 0 || r.state != state)
             continue;
-        printf("  %-11s lot %u: owner %u, %s kilograms", states[state], r + 1, receipt[CRZ_RECEIPT_OWNER],
-            grouped(get_number(receipt + CRZ_RECEIPT_WEIGHT, 4)).text);
-        print_trade(receipt);
-        putchar('\n');
+        printf("  lot %u: %s, owner %u, %s kilograms", n, state_words[state], r.owner, grouped(r.weight).text);
+        print_parties(&r);
+        print_terms(&r);
+        print_money(&r);
     }
 }
 
 void print_zone(const uint8_t image[CRZ_IMAGE_LENGTH])
 {
-    printf("day %s, %s, total %s fen\n", grouped(get_number(image + CRZ_IMAGE_DAY, 2)).text, phase_word(image[CRZ_IMAGE_PHASE]),
-        grouped(get_number(image + CRZ_IMAGE_TOTAL, 8)).text);
+    printf("day %s, %s, total %s fen\n", grouped(crz_get_day(image)).text, phase_words(crz_get_phase(image)),
+        grouped(crz_get_total(image)).text);
     print_asks(image);
     print_accounts(image);
-    for (unsigned state = CRZ_STATE_IDLE; state <= CRZ_STATE_PENALTY_DUE; state++)
+    for (uint32_t state = 0; state < STATES; state++)
         print_lots(image, state);
 }

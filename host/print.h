@@ -1,12 +1,31 @@
-/* Answers and zones as readable lines. */
+/* Answers, journal lines and zones as readable lines on standard output. */
 #ifndef PRINT_H
 #define PRINT_H
 
-#include <stdint.h>
+#include "journal.h"
+#include "words.h"
 
-#include "../include/crz.h"
+/* What a number in an entry is. */
+enum unit { UNIT_NONE, UNIT_FEN, UNIT_YUAN };
 
-void print_answer(uint32_t number, const uint8_t answer[CRZ_ANSWER_LENGTH]);
+struct outcome_words {
+    const char *word;
+    const char *from;
+    const char *to; /* NULL for nobody */
+    enum unit unit;
+};
+
+/* NULL where there is no such outcome. */
+const struct outcome_words *outcome_of(uint32_t outcome);
+
+const char *phase_words(uint32_t phase);
+
+/* A call that was made: its number and sequence, and its entries; `found` is the image that it found. */
+void print_made(const struct line *line, const uint8_t found[CRZ_IMAGE_LENGTH]);
+
+/* A line of the journal. */
+void print_line(const struct line *line);
+
 void print_zone(const uint8_t image[CRZ_IMAGE_LENGTH]);
 
 #endif

@@ -1,4 +1,11 @@
-#define _XOPEN_SOURCE 700
+/*
+ * The store in a SQLite file: table zone has one row, table journal a row for each line.
+ *
+ * A commit goes through SQLite's rollback journal, a file FILE-journal that is there while a program writes: what a
+ * kill or a power cut leaves half written, the next program to open the zone takes back. synchronous=EXTRA has every
+ * commit on the disk before it returns. At rest the zone is one file.
+ */
+#define _GNU_SOURCE /* AT_EACCESS, realpath */
 
 #include "store.h"
 
@@ -6,191 +13,794 @@
 #include <fcntl.h>
 #include <stdio.h>
 #include <stdlib.h>
-#include <string.h>
 #include <sys/stat.h>
+#include <time.h>
 #include <unistd.h>
 
-static int trouble(const char *path, const char *what)
+#include <sqlite3.h>
+
+#include "digits.h"
+#include "file.h"
+#include "report.h"
+
+enum { APPLICATION = 0x63727a66, PAGE = 4096, HEADER = 100, BATCH = 64, LONGEST_PATH = 480 };
+
+enum statement { BEGIN, CANCEL, COMMIT, PAGES, READ_ZONE, READ_NEWEST, READ_LINES, ADD_LINE, PUT_ZONE, STATEMENTS };
+
+#define COLUMNS "sequence, time, entry, call, number, answer, further, image_hash, hash"
+
+static const char *const sql[STATEMENTS] = {
+    [BEGIN] = "BEGIN IMMEDIATE",
+    [CANCEL] = "ROLLBACK",
+    [COMMIT] = "COMMIT",
+    [PAGES] = "PRAGMA page_count",
+    [READ_ZONE] = "SELECT image, last_hash FROM zone WHERE place = 1",
+    [READ_NEWEST] = "SELECT " COLUMNS " FROM journal ORDER BY sequence DESC LIMIT 2",
+    [READ_LINES] = "SELECT " COLUMNS " FROM journal WHERE sequence BETWEEN ?1 AND ?2 ORDER BY sequence LIMIT ?3",
+    [ADD_LINE] = "INSERT INTO journal (" COLUMNS ") VALUES (?, ?, ?, ?, ?, ?, ?, ?, ?)",
+    [PUT_ZONE] = "UPDATE zone SET image = ?1, last_hash = ?2 WHERE place = 1",
+};
+
+/* The tables as SQLite keeps their text: a file with another schema is no zone. */
+static const char *const tables[] = {
+    "CREATE TABLE zone (place INTEGER PRIMARY KEY, image BLOB NOT NULL, last_hash BLOB NOT NULL)",
+    "CREATE TABLE journal (sequence INTEGER PRIMARY KEY, time TEXT NOT NULL, entry TEXT NOT NULL, call BLOB NOT NULL, "
+    "number INTEGER NOT NULL, answer BLOB NOT NULL, further BLOB, image_hash BLOB, hash BLOB NOT NULL)",
+};
+
+enum { TABLES = sizeof tables / sizeof tables[0] };
+
+/* Names of SQLite's own files beside a zone; of these a zone has the first, while a program writes. */
+static const char *const endings[] = {"-journal", "-wal", "-shm"};
+
+enum { ENDINGS = sizeof endings / sizeof endings[0] };
+
+struct store {
+    char *name; /* as the user gave it, for messages */
+    char *path; /* no link, so that all names of a zone share one rollback journal */
+    sqlite3 *base;
+    sqlite3_stmt *statements[STATEMENTS];
+    enum store_use use;
+    unsigned wait;
+    struct timespec since; /* when the present wait began */
+    int told;              /* that a wait goes on */
+    dev_t device;
+    ino_t file;
+    struct hash last_hash; /* as it was last read */
+};
+
+const char *store_path(const struct store *store)
 {
-    fprintf(stderr, "crz: %s: %s: %s\n", path, what, strerror(errno));
-    return -1;
+    return store->name;
 }
 
-static char *joined(const char *path, size_t length, const char *ending)
+const char *store_engine(void)
 {
-    char *text = malloc(length + strlen(ending) + 1);
-    if (text != NULL) {
-        memcpy(text, path, length);
-        strcpy(text + length, ending);
+    static char words[32];
+    snprintf(words, sizeof words, "SQLite %s", sqlite3_libversion());
+    return words;
+}
+
+/* ── Messages ──────────────────────────────────────────────────────────────────────────────────── */
+
+int store_damaged(const char *name, enum store_use use, const char *what)
+{
+    if (use == STORE_VERIFY)
+        return report(name, "damaged: %s; go back to a copy that verifies", what);
+    return report(name, "damaged: %s; 'crz verify' looks for the first bad line", what);
+}
+
+static int damaged(const struct store *store, const char *what)
+{
+    return store_damaged(store->name, store->use, what);
+}
+
+/* Whether the file under the zone's name is still the one that is open. */
+static int in_place(const struct store *store, struct stat *is)
+{
+    return stat(store->path, is) == 0 && is->st_dev == store->device && is->st_ino == store->file;
+}
+
+static int moved(const struct store *store)
+{
+    return report(store->name, "the file was moved or replaced while in use; nothing more is done");
+}
+
+static int failed_at(struct store *store, int code)
+{
+    const char *name = store->name;
+    int why = sqlite3_system_errno(store->base);
+    const char *words = why != 0 ? strerror(why) : sqlite3_errmsg(store->base);
+    struct stat is;
+    if (store->file != 0 && !in_place(store, &is))
+        return moved(store);
+    switch (code & 0xff) {
+    case SQLITE_BUSY:
+        return report(name, "in use by another program; gave up after %u second%s, --wait SECONDS waits longer",
+            store->wait, plural(store->wait));
+    case SQLITE_FULL: return report(name, "the disk is full; make room and try again");
+    case SQLITE_CORRUPT:
+    case SQLITE_NOTADB: return damaged(store, "the file is not laid out as a store");
+    case SQLITE_READONLY:
+        return report(name, "a program was cut off while it wrote; open the zone once as a user who may write it");
+    case SQLITE_CANTOPEN:
+        return report(name, "it or the file %s-journal beside it cannot be opened: %s", store->path, words);
+    case SQLITE_IOERR: return report(name, "the disk reports an error: %s", words);
+    default: return report(name, "SQLite: %s", sqlite3_errmsg(store->base));
     }
-    return text;
 }
 
-static char *folder_of(const char *path)
+static int failed(struct store *store)
 {
-    const char *slash = strrchr(path, '/');
-    if (slash == NULL)
-        return joined(".", 1, "");
-    return joined(path, slash == path ? 1 : (size_t)(slash - path), "");
+    return failed_at(store, sqlite3_extended_errcode(store->base));
 }
 
-/* The file behind a link, so that the link stays one. A new zone has no file yet. */
-static char *resolved(const char *path)
+/* ── Waiting for other programs ────────────────────────────────────────────────────────────────── */
+
+static void start_wait(struct store *store)
 {
-    char *file = realpath(path, NULL);
-    return file == NULL && errno == ENOENT ? joined(path, strlen(path), "") : file;
+    clock_gettime(CLOCK_MONOTONIC, &store->since);
 }
 
-/* A lock beside the image: the image's own file is another one after each call. */
-static int locked(const char *path)
+static double waited(const struct store *store)
 {
-    struct flock whole = {.l_type = F_WRLCK, .l_whence = SEEK_SET};
-    int lock = open(path, O_RDWR | O_CREAT | O_CLOEXEC, 0666);
-    if (lock < 0)
-        return trouble(path, "cannot open the lock");
-    while (fcntl(lock, F_SETLKW, &whole) != 0)
-        if (errno != EINTR) {
-            trouble(path, "cannot lock");
-            close(lock);
-            return -1;
-        }
-    return lock;
+    struct timespec now;
+    clock_gettime(CLOCK_MONOTONIC, &now);
+    return (double)(now.tv_sec - store->since.tv_sec) + (double)(now.tv_nsec - store->since.tv_nsec) / 1e9;
 }
 
-int store_open(struct store *store, const char *name)
+/* SQLite asks this whenever a lock is taken: 1 to try again. */
+static int try_again(void *context, int tries)
 {
-    char *path = resolved(name);
-    if (path == NULL)
-        return trouble(name, "cannot open");
-    char *lock_path = joined(path, strlen(path), ".lock");
-    *store = (struct store){.path = path, .next = joined(path, strlen(path), ".next"), .folder = folder_of(path), .lock = -1};
-    if (lock_path == NULL || store->next == NULL || store->folder == NULL)
-        trouble(path, "no memory");
-    else
-        store->lock = locked(lock_path);
-    free(lock_path);
-    if (store->lock >= 0)
+    struct store *store = context;
+    double seconds = waited(store);
+    struct timespec pause = {0, 500000 + 500000 * (tries % 7)}; /* others wait with other pauses */
+    if (seconds >= store->wait)
         return 0;
+    if (seconds >= 1 && !store->told) {
+        store->told = 1;
+        report(store->name, "in use by another program, waiting up to %u seconds", store->wait);
+    }
+    nanosleep(&pause, NULL);
+    return 1;
+}
+
+/* ── Statements ────────────────────────────────────────────────────────────────────────────────── */
+
+static sqlite3_stmt *statement(struct store *store, enum statement which)
+{
+    sqlite3_stmt **prepared = &store->statements[which];
+    if (*prepared == NULL
+        && sqlite3_prepare_v3(store->base, sql[which], -1, SQLITE_PREPARE_PERSISTENT, prepared, NULL) != SQLITE_OK)
+        failed(store);
+    return *prepared;
+}
+
+/* A statement without a result. */
+static int run(struct store *store, enum statement which)
+{
+    sqlite3_stmt *prepared = statement(store, which);
+    if (prepared == NULL)
+        return -1;
+    int code = sqlite3_step(prepared);
+    sqlite3_reset(prepared);
+    return code == SQLITE_DONE ? 0 : failed_at(store, code);
+}
+
+/* A statement that is made once. */
+static int execute(struct store *store, const char *text)
+{
+    return sqlite3_exec(store->base, text, NULL, NULL, NULL) == SQLITE_OK ? 0 : failed(store);
+}
+
+/* ── Rows ──────────────────────────────────────────────────────────────────────────────────────── */
+
+/* A value's bytes, or -1 where it is of another type or too long. */
+static int take(sqlite3_stmt *row, int column, int type, void *bytes, size_t most, size_t *length)
+{
+    if (sqlite3_column_type(row, column) != type)
+        return -1;
+    const void *value =
+        type == SQLITE_TEXT ? (const void *)sqlite3_column_text(row, column) : sqlite3_column_blob(row, column);
+    size_t has = (size_t)sqlite3_column_bytes(row, column);
+    if (has > most || (has > 0 && value == NULL))
+        return -1;
+    if (has > 0)
+        memcpy(bytes, value, has);
+    *length = has;
+    return 0;
+}
+
+static int take_text(sqlite3_stmt *row, int column, char *text, size_t most)
+{
+    size_t length;
+    if (take(row, column, SQLITE_TEXT, text, most, &length) != 0)
+        return -1;
+    text[length] = '\0';
+    return strlen(text) == length ? 0 : -1;
+}
+
+static int take_hash(sqlite3_stmt *row, int column, struct hash *hash)
+{
+    size_t length;
+    if (take(row, column, SQLITE_BLOB, hash->bytes, sizeof hash->bytes, &length) != 0)
+        return -1;
+    return length == sizeof hash->bytes ? 0 : -1;
+}
+
+static int take_number(sqlite3_stmt *row, int column, uint64_t *number)
+{
+    sqlite3_int64 value = sqlite3_column_int64(row, column);
+    if (sqlite3_column_type(row, column) != SQLITE_INTEGER || value < 0)
+        return -1;
+    *number = (uint64_t)value;
+    return 0;
+}
+
+/* What a line may be without. */
+static int take_optional(sqlite3_stmt *row, struct line *line)
+{
+    line->has_further = sqlite3_column_type(row, 6) != SQLITE_NULL;
+    line->has_image_hash = sqlite3_column_type(row, 7) != SQLITE_NULL;
+    if (line->has_further && take(row, 6, SQLITE_BLOB, line->further, FURTHER_LENGTH, &line->further_length) != 0)
+        return -1;
+    return line->has_image_hash ? take_hash(row, 7, &line->image_hash) : 0;
+}
+
+static int take_line(struct store *store, sqlite3_stmt *row, struct line *line)
+{
+    uint64_t number = 0;
+    char what[96];
+    memset(line, 0, sizeof *line);
+    int bad = take_number(row, 0, &line->sequence) != 0;
+    bad |= take_text(row, 1, line->time, TIME_LENGTH) != 0 || take_text(row, 2, line->entry, ENTRY_LENGTH) != 0;
+    bad |= take(row, 3, SQLITE_BLOB, line->call, CRZ_CALL_LENGTH, &line->call_length) != 0;
+    bad |= take_number(row, 4, &number) != 0 || number > UINT32_MAX;
+    bad |= take(row, 5, SQLITE_BLOB, line->answer, CRZ_ANSWER_LENGTH, &line->answer_length) != 0;
+    bad |= take_optional(row, line) != 0 || take_hash(row, 8, &line->hash) != 0;
+    line->number = (uint32_t)number;
+    if (!bad)
+        return 0;
+    snprintf(what, sizeof what, "line %llu of the journal has a field of another type or length",
+        (unsigned long long)line->sequence);
+    return damaged(store, what);
+}
+
+static int read_zone(struct store *store, struct kept *kept)
+{
+    sqlite3_stmt *row = statement(store, READ_ZONE);
+    size_t length = 0;
+    if (row == NULL)
+        return -1;
+    int code = sqlite3_step(row), bad = -1;
+    if (code == SQLITE_DONE)
+        damaged(store, "it has no image");
+    else if (code != SQLITE_ROW)
+        failed_at(store, code);
+    else if (take(row, 0, SQLITE_BLOB, kept->image, CRZ_IMAGE_LENGTH, &length) != 0 || length != CRZ_IMAGE_LENGTH
+             || take_hash(row, 1, &kept->last_hash) != 0)
+        damaged(store, "its image has another type or length");
+    else
+        bad = 0;
+    sqlite3_reset(row);
+    return bad;
+}
+
+/* Lines of a statement, `most` at most, and how many; -1 after a message, with the lines before the bad one. */
+static int read_lines(struct store *store, sqlite3_stmt *rows, struct line *lines, int most, int *count)
+{
+    int code = SQLITE_ROW, bad = 0;
+    *count = 0;
+    while (!bad && *count < most && (code = sqlite3_step(rows)) == SQLITE_ROW) {
+        bad = take_line(store, rows, &lines[*count]);
+        *count += bad ? 0 : 1;
+    }
+    sqlite3_reset(rows);
+    return bad || code == SQLITE_ROW || code == SQLITE_DONE ? bad : failed_at(store, code);
+}
+
+static int read_newest(struct store *store, struct newest *newest)
+{
+    struct line lines[2];
+    sqlite3_stmt *rows = statement(store, READ_NEWEST);
+    if (rows == NULL || read_zone(store, &newest->kept) != 0)
+        return -1;
+    int count;
+    if (read_lines(store, rows, lines, 2, &count) != 0)
+        return -1;
+    if (count == 0)
+        return damaged(store, "it has no journal");
+    newest->last = lines[0];
+    store->last_hash = lines[0].hash;
+    memset(&newest->before, 0, sizeof newest->before);
+    if (count == 2)
+        newest->before = lines[1].hash;
+    if (count == 2 ? lines[1].sequence + 1 == lines[0].sequence : lines[0].sequence == 0)
+        return 0;
+    return damaged(store, "the line before the last one is missing");
+}
+
+static int bind_line(sqlite3_stmt *row, const struct line *line)
+{
+    int code = sqlite3_bind_int64(row, 1, (sqlite3_int64)line->sequence);
+    code |= sqlite3_bind_text(row, 2, line->time, -1, SQLITE_STATIC);
+    code |= sqlite3_bind_text(row, 3, line->entry, -1, SQLITE_STATIC);
+    code |= sqlite3_bind_blob(row, 4, line->call, (int)line->call_length, SQLITE_STATIC);
+    code |= sqlite3_bind_int64(row, 5, line->number);
+    code |= sqlite3_bind_blob(row, 6, line->answer, (int)line->answer_length, SQLITE_STATIC);
+    if (line->has_further)
+        code |= sqlite3_bind_blob(row, 7, line->further, (int)line->further_length, SQLITE_STATIC);
+    if (line->has_image_hash)
+        code |= sqlite3_bind_blob(row, 8, line->image_hash.bytes, HASH_LENGTH, SQLITE_STATIC);
+    code |= sqlite3_bind_blob(row, 9, line->hash.bytes, HASH_LENGTH, SQLITE_STATIC);
+    return code;
+}
+
+static int add_line(struct store *store, const struct line *line)
+{
+    sqlite3_stmt *row = statement(store, ADD_LINE);
+    if (row == NULL || sqlite3_clear_bindings(row) != SQLITE_OK)
+        return -1;
+    return bind_line(row, line) == SQLITE_OK ? run(store, ADD_LINE) : failed(store);
+}
+
+static int put_zone(struct store *store, const uint8_t *image, const struct hash *last_hash)
+{
+    sqlite3_stmt *row = statement(store, PUT_ZONE);
+    if (row == NULL)
+        return -1;
+    if (sqlite3_bind_blob(row, 1, image, CRZ_IMAGE_LENGTH, SQLITE_STATIC) != SQLITE_OK
+        || sqlite3_bind_blob(row, 2, last_hash->bytes, HASH_LENGTH, SQLITE_STATIC) != SQLITE_OK)
+        return failed(store);
+    return run(store, PUT_ZONE);
+}
+
+/* ── The file, before SQLite sees it ───────────────────────────────────────────────────────────── */
+
+static uint32_t big_endian(const uint8_t *at)
+{
+    return (uint32_t)at[0] << 24 | (uint32_t)at[1] << 16 | (uint32_t)at[2] << 8 | at[3];
+}
+
+/* Fields of SQLite's header that a zone never changes: page size, legacy format, no free pages, UTF-8, zeros. */
+static int header_ours(const uint8_t *header)
+{
+    static const uint8_t layout[] = {PAGE >> 8, PAGE & 0xff, 1, 1, 0, 64, 32, 32}, zeros[20] = {0};
+    return memcmp(header + 16, layout, sizeof layout) == 0 && memcmp(header + 32, zeros, 8) == 0
+           && big_endian(header + 44) == 4 && memcmp(header + 48, zeros, 8) == 0 && big_endian(header + 56) == 1
+           && big_endian(header + 64) == 0 && memcmp(header + 72, zeros, 20) == 0;
+}
+
+static int judge_header(const char *name, enum store_use use, const uint8_t *header, ssize_t has, off_t length)
+{
+    static const char magic[16] = "SQLite format 3";
+    if (has < 0)
+        return report(name, "cannot be read: %s", strerror(errno));
+    if (length == CRZ_IMAGE_LENGTH)
+        return report(name, "is no zone; if it is a raw image, 'crz import ZONE %s' makes a zone from it", name);
+    if (has < HEADER || memcmp(header, magic, sizeof magic) != 0 || big_endian(header + 68) != APPLICATION)
+        return report(name, "is no zone; name a file that 'crz new' or 'crz import' has made");
+    if (big_endian(header + 60) != STORE_FORMAT)
+        return report(
+            name, "is a zone of format %u; this program knows format %d", big_endian(header + 60), STORE_FORMAT);
+    return header_ours(header) ? 0 : store_damaged(name, use, "its header is changed");
+}
+
+static int judge_kind(const char *name, int file, struct stat *is)
+{
+    if (fstat(file, is) != 0)
+        return report(name, "cannot be read: %s", strerror(errno));
+    if (S_ISDIR(is->st_mode))
+        return report(name, "is a folder, not a zone");
+    return S_ISREG(is->st_mode) ? 0 : report(name, "is no regular file");
+}
+
+/* Closed again before SQLite opens the file: a second descriptor, closed later, would drop SQLite's locks. */
+static int judge_file(const char *name, enum store_use use, struct stat *is)
+{
+    uint8_t header[HEADER];
+    int file = open(name, O_RDONLY | O_NONBLOCK | O_NOCTTY | O_CLOEXEC);
+    if (file < 0 && errno == ENOENT)
+        return report(name, "there is no such file; 'crz new FILE' makes a zone");
+    if (file < 0)
+        return report(name, "cannot be opened: %s", strerror(errno));
+    int bad = judge_kind(name, file, is);
+    if (!bad)
+        bad = judge_header(name, use, header, pread(file, header, HEADER, 0), is->st_size);
+    close(file);
+    return bad ? -1 : 0;
+}
+
+/* Whether a file is SQLite's rollback file, by its first bytes: its mark, zeros after a commit, or nothing. */
+static int is_rollback_file(const char *path)
+{
+    static const uint8_t mark[8] = {0xd9, 0xd5, 0x05, 0xf9, 0x20, 0xa1, 0x63, 0xd7}, zeros[8] = {0};
+    uint8_t first[8];
+    int file = open(path, O_RDONLY | O_NONBLOCK | O_NOCTTY | O_CLOEXEC);
+    if (file < 0)
+        return 1; /* SQLite meets the same error and says so */
+    ssize_t has = pread(file, first, sizeof first, 0);
+    close(file);
+    return has == 0 || (has == 8 && (memcmp(first, mark, 8) == 0 || memcmp(first, zeros, 8) == 0));
+}
+
+/* SQLite would take files with these names for its own, and change or remove them. */
+static int judge_beside(const char *name, const char *path)
+{
+    char beside[LONGEST_PATH + 16];
+    struct stat is;
+    if (strlen(path) > LONGEST_PATH)
+        return report(name, "its whole path is longer than %d bytes", LONGEST_PATH);
+    for (size_t i = 0; i < ENDINGS; i++) {
+        snprintf(beside, sizeof beside, "%s%s", path, endings[i]);
+        if (lstat(beside, &is) == 0 && (i != 0 || !S_ISREG(is.st_mode) || !is_rollback_file(beside)))
+            return report(name, "%s does not belong to it; move that file away first", beside);
+    }
+    return 0;
+}
+
+/* SQLite makes its rollback file in the zone's folder, and makes its name durable there. */
+static int judge_folder(const char *name, const char *path)
+{
+    int folder = file_folder(path);
+    if (folder < 0)
+        return -1;
+    int bad = faccessat(folder, ".", W_OK | X_OK, AT_EACCESS) != 0;
+    int why = errno;
+    close(folder);
+    if (!bad)
+        return 0;
+    return report(name, "its folder cannot be written: %s; SQLite keeps a file there during a call", strerror(why));
+}
+
+/* The superuser may write every file; a file that nobody may write is meant to stay as it is. */
+static int judge_writing(const char *name, const char *path, const struct stat *is)
+{
+    if ((is->st_mode & (S_IWUSR | S_IWGRP | S_IWOTH)) == 0)
+        return report(
+            name, "nobody may write it (mode %03o); 'chmod u+w FILE' allows it", (unsigned)is->st_mode & 07777);
+    if (is->st_nlink > 1)
+        return report(name, "has %lu names (hard links), which SQLite cannot keep apart; remove the others",
+            (unsigned long)is->st_nlink);
+    if (faccessat(AT_FDCWD, path, W_OK, AT_EACCESS) != 0)
+        return report(name, "cannot be written: %s", strerror(errno));
+    return judge_folder(name, path);
+}
+
+/* ── Opening and closing ───────────────────────────────────────────────────────────────────────── */
+
+/* Rows of the schema that are one of the tables, in their order; any other row makes it -1. */
+static int same_table(void *context, int columns, char **values, char **names)
+{
+    int *next = context;
+    (void)names;
+    if (columns != 1 || *next < 0 || *next >= TABLES || values[0] == NULL || strcmp(values[0], tables[*next]) != 0)
+        *next = -1;
+    else
+        ++*next;
+    return 0;
+}
+
+static int judge_schema(struct store *store)
+{
+    int found = 0;
+    if (sqlite3_exec(store->base, "SELECT sql FROM sqlite_master ORDER BY rowid", same_table, &found, NULL)
+        != SQLITE_OK)
+        return failed(store);
+    return found == TABLES ? 0 : damaged(store, "its tables are not those of a zone");
+}
+
+static int set_up(struct store *store)
+{
+    sqlite3_extended_result_codes(store->base, 1);
+    sqlite3_db_config(store->base, SQLITE_DBCONFIG_DEFENSIVE, 1, NULL);
+    sqlite3_db_config(store->base, SQLITE_DBCONFIG_ENABLE_TRIGGER, 0, NULL);
+    sqlite3_db_config(store->base, SQLITE_DBCONFIG_ENABLE_VIEW, 0, NULL);
+    sqlite3_busy_handler(store->base, try_again, store);
+    start_wait(store);
+    if (execute(store, "PRAGMA trusted_schema = OFF") != 0 || execute(store, "PRAGMA cell_size_check = ON") != 0
+        || execute(store, "PRAGMA mmap_size = 0") != 0 || execute(store, "PRAGMA temp_store = MEMORY") != 0
+        || execute(store, "PRAGMA fullfsync = ON") != 0 || execute(store, "PRAGMA synchronous = EXTRA") != 0)
+        return -1;
+    if (store->use == STORE_WRITE && execute(store, "PRAGMA journal_mode = PERSIST") != 0)
+        return -1;
+    return judge_schema(store);
+}
+
+static int open_base(struct store *store)
+{
+    if (sqlite3_open_v2(store->path, &store->base, SQLITE_OPEN_READWRITE | SQLITE_OPEN_NOMUTEX, NULL) == SQLITE_OK)
+        return set_up(store);
+    return store->base == NULL ? report(store->name, "no memory") : failed(store);
+}
+
+static int open_judged(struct store *store, const char *name)
+{
+    struct stat is;
+    if (judge_file(name, store->use, &is) != 0)
+        return -1;
+    store->path = realpath(name, NULL);
+    if (store->path == NULL)
+        return report(name, "cannot be opened: %s", strerror(errno));
+    if (judge_beside(name, store->path) != 0)
+        return -1;
+    if (store->use == STORE_WRITE && judge_writing(name, store->path, &is) != 0)
+        return -1;
+    store->device = is.st_dev;
+    store->file = is.st_ino;
+    return open_base(store);
+}
+
+static struct store *store_named(const char *name, enum store_use use, unsigned wait)
+{
+    struct store *store = calloc(1, sizeof *store);
+    if (store != NULL && (store->name = strdup(name)) != NULL) {
+        store->use = use;
+        store->wait = wait;
+        return store;
+    }
+    report(name, "no memory");
+    free(store);
+    return NULL;
+}
+
+struct store *store_open(const char *name, enum store_use use, unsigned wait)
+{
+    struct store *store = store_named(name, use, wait);
+    if (store == NULL || open_judged(store, name) == 0)
+        return store;
     store_close(store);
-    return -1;
+    return NULL;
 }
 
 void store_close(struct store *store)
 {
-    if (store->lock >= 0)
-        close(store->lock);
+    if (store == NULL)
+        return;
+    for (int i = 0; i < STATEMENTS; i++)
+        sqlite3_finalize(store->statements[i]);
+    store->wait = 0;
+    if (store->base != NULL && store->use == STORE_WRITE) /* removes the rollback file where no other program uses it */
+        sqlite3_exec(store->base, "PRAGMA journal_mode = DELETE", NULL, NULL, NULL);
+    sqlite3_close(store->base);
     free(store->path);
-    free(store->next);
-    free(store->folder);
-    *store = (struct store){.lock = -1};
+    free(store->name);
+    free(store);
 }
 
-static int write_whole(int file, const uint8_t *bytes, size_t length)
+/* ── Making a store ────────────────────────────────────────────────────────────────────────────── */
+
+static int fill(struct store *store, const uint8_t *image, const struct line *start)
 {
-    while (length > 0) {
-        ssize_t n = write(file, bytes, length);
-        if (n < 0 && errno == EINTR)
-            continue;
-        if (n <= 0)
-            return -1;
-        bytes += n;
-        length -= (size_t)n;
+    char ids[128];
+    sqlite3_stmt *row = NULL;
+    snprintf(ids, sizeof ids, "PRAGMA page_size = %d; PRAGMA application_id = %d; PRAGMA user_version = %d", PAGE,
+        APPLICATION, STORE_FORMAT);
+    if (execute(store, ids) != 0 || execute(store, tables[0]) != 0 || execute(store, tables[1]) != 0)
+        return -1;
+    int code = sqlite3_prepare_v2(store->base, "INSERT INTO zone VALUES (1, ?1, ?2)", -1, &row, NULL);
+    if (code == SQLITE_OK)
+        code = sqlite3_bind_blob(row, 1, image, CRZ_IMAGE_LENGTH, SQLITE_STATIC);
+    if (code == SQLITE_OK)
+        code = sqlite3_bind_blob(row, 2, start->hash.bytes, HASH_LENGTH, SQLITE_STATIC);
+    if (code == SQLITE_OK)
+        code = sqlite3_step(row);
+    sqlite3_finalize(row);
+    return code == SQLITE_DONE ? add_line(store, start) : failed(store);
+}
+
+/* SQLite takes whole paths up to a length; a zone that nobody could open is not made. */
+static int path_fits(const char *path)
+{
+    char here[LONGEST_PATH + 1];
+    if (path[0] == '/')
+        return strlen(path) <= LONGEST_PATH;
+    return getcwd(here, sizeof here) != NULL && strlen(here) + 1 + strlen(path) <= LONGEST_PATH;
+}
+
+/* What is left of another zone would be taken for changes of this one, and a name like that for a file of SQLite's. */
+static int judge_name(const char *path)
+{
+    char beside[LONGEST_PATH + 16];
+    struct stat is;
+    size_t length = strlen(path);
+    if (!path_fits(path))
+        return report(path, "its whole path is longer than %d bytes", LONGEST_PATH);
+    for (size_t i = 0; i < ENDINGS; i++) {
+        size_t end = strlen(endings[i]);
+        if (length >= end && strcmp(path + length - end, endings[i]) == 0)
+            return report(path, "names that end in %s are SQLite's own; choose another name", endings[i]);
+        snprintf(beside, sizeof beside, "%s%s", path, endings[i]);
+        if (lstat(beside, &is) == 0)
+            return report(path, "%s is there, left of another zone perhaps; move that file away first", beside);
     }
     return 0;
 }
 
-/* A file with the old one's mode before it has a byte, so that nobody reads more than before. `old` is NULL for a new zone. */
-static int open_next(const struct store *store, const struct stat *old)
+/* The file's bytes, made in memory; NULL after a message. */
+static unsigned char *make_bytes(struct store *store, const uint8_t *image, const struct line *start, size_t *length)
 {
-    unlink(store->next); /* what a kill has left */
-    int file = open(store->next, O_WRONLY | O_CREAT | O_EXCL | O_CLOEXEC, old == NULL ? 0666 : 0600);
-    if (file < 0)
-        return trouble(store->next, "cannot open");
-    if (old == NULL || fchmod(file, old->st_mode & 07777) == 0)
-        return file;
-    trouble(store->next, "cannot keep the mode");
-    close(file);
+    sqlite3_int64 made = 0;
+    if (sqlite3_open_v2(":memory:", &store->base, SQLITE_OPEN_READWRITE | SQLITE_OPEN_NOMUTEX, NULL) != SQLITE_OK
+        || fill(store, image, start) != 0)
+        return NULL;
+    unsigned char *bytes = sqlite3_serialize(store->base, "main", &made, 0);
+    if (bytes == NULL)
+        report(store->name, "no memory");
+    *length = (size_t)made;
+    return bytes;
+}
+
+/* Written as a whole: the file is never seen half made. */
+int store_create(const char *path, const uint8_t image[CRZ_IMAGE_LENGTH], const struct line *start)
+{
+    struct store *store = judge_name(path) == 0 ? store_named(path, STORE_READ, 0) : NULL;
+    size_t length = 0;
+    if (store == NULL)
+        return -1;
+    unsigned char *bytes = make_bytes(store, image, start, &length);
+    int bad = bytes == NULL || file_create(path, bytes, length) != 0;
+    sqlite3_free(bytes);
+    store_close(store);
+    return bad ? -1 : 0;
+}
+
+/* ── Reading and committing ────────────────────────────────────────────────────────────────────── */
+
+/* The file is in its place, and as long as SQLite takes it to be. */
+static int judge_place(struct store *store)
+{
+    struct stat is;
+    sqlite3_stmt *row = statement(store, PAGES);
+    if (row == NULL)
+        return -1;
+    int code = sqlite3_step(row);
+    sqlite3_int64 pages = code == SQLITE_ROW ? sqlite3_column_int64(row, 0) : 0;
+    sqlite3_reset(row);
+    if (code != SQLITE_ROW)
+        return failed_at(store, code);
+    if (!in_place(store, &is))
+        return moved(store);
+    return is.st_size == pages * PAGE ? 0 : damaged(store, "it has another length than its header says");
+}
+
+void store_cancel(struct store *store)
+{
+    if (!sqlite3_get_autocommit(store->base))
+        sqlite3_exec(store->base, sql[CANCEL], NULL, NULL, NULL);
+}
+
+int store_begin(struct store *store)
+{
+    start_wait(store);
+    if (run(store, BEGIN) != 0)
+        return -1;
+    if (judge_place(store) == 0)
+        return 0;
+    store_cancel(store);
     return -1;
 }
 
-/* On the disk under its own name before it takes another one's place. */
-static int write_next(const struct store *store, const uint8_t *image, const struct stat *old)
+int store_read(struct store *store, struct newest *newest)
 {
-    int file = open_next(store, old);
-    if (file < 0)
+    int own = sqlite3_get_autocommit(store->base);
+    start_wait(store);
+    if (own && execute(store, "BEGIN") != 0)
         return -1;
-    int bad = write_whole(file, image, CRZ_IMAGE_LENGTH) != 0 || fsync(file) != 0;
-    if (bad)
-        trouble(store->next, "cannot write");
-    if (close(file) != 0 && !bad)
-        bad = trouble(store->next, "cannot close") != 0;
-    return bad ? -1 : 0;
+    int bad = read_newest(store, newest);
+    if (own)
+        store_cancel(store);
+    return bad;
 }
 
-static int keep_names(const struct store *store)
+/* Read again before the commit: a page that is damaged inside could have put one line over another. */
+static int stands(struct store *store, const uint8_t *image, const struct line *last, const struct hash *before)
 {
-    int folder = open(store->folder, O_RDONLY | O_DIRECTORY | O_CLOEXEC);
-    if (folder < 0)
-        return trouble(store->folder, "cannot open");
-    int bad = fsync(folder) != 0;
-    if (bad)
-        trouble(store->folder, "cannot keep the new name");
-    close(folder);
-    return bad ? -1 : 0;
-}
-
-int store_create(const struct store *store, const uint8_t image[CRZ_IMAGE_LENGTH])
-{
-    if (write_next(store, image, NULL) != 0)
+    struct newest newest;
+    if (read_newest(store, &newest) != 0)
         return -1;
-    int bad = link(store->next, store->path) != 0;
-    if (bad)
-        trouble(store->path, "cannot make a new zone");
-    unlink(store->next);
-    return bad ? -1 : keep_names(store);
+    if (memcmp(newest.kept.image, image, CRZ_IMAGE_LENGTH) == 0 && hash_same(&newest.kept.last_hash, &last->hash)
+        && hash_same(&newest.last.hash, &last->hash) && hash_same(&newest.before, before))
+        return 0;
+    return damaged(store, "what was written is not what stands there");
 }
 
-int store_replace(const struct store *store, const uint8_t image[CRZ_IMAGE_LENGTH])
+/* SQLite may report an error of a commit that is on the disk all the same: what is read then decides. */
+static enum commit after_error(struct store *store, const struct hash *hash)
 {
-    struct stat old;
-    if (stat(store->path, &old) != 0)
-        return trouble(store->path, "cannot read the mode");
-    if (write_next(store, image, &old) != 0)
-        return -1;
-    if (rename(store->next, store->path) != 0)
-        return trouble(store->path, "cannot put the new image in place");
-    return keep_names(store);
+    struct newest newest;
+    store_cancel(store);
+    if (store_read(store, &newest) != 0 || hash_same(&newest.kept.last_hash, hash))
+        return COMMIT_UNSURE;
+    return COMMIT_NOT_DONE;
 }
 
-/* Bytes read, one past the image's length at most, so that a longer file shows. */
-static ssize_t read_whole(int file, uint8_t *bytes)
+enum commit store_commit(
+    struct store *store, const uint8_t image[CRZ_IMAGE_LENGTH], const struct line *lines, size_t count)
 {
-    ssize_t have = 0;
-    while (have <= CRZ_IMAGE_LENGTH) {
-        ssize_t n = read(file, bytes + have, (size_t)(CRZ_IMAGE_LENGTH + 1 - have));
-        if (n < 0 && errno == EINTR)
-            continue;
-        if (n <= 0)
-            return n < 0 ? -1 : have;
-        have += n;
+    const struct hash before = count > 1 ? lines[count - 2].hash : store->last_hash;
+    int bad = 0;
+    for (size_t i = 0; i < count && !bad; i++)
+        bad = add_line(store, &lines[i]);
+    bad = bad || put_zone(store, image, &lines[count - 1].hash) != 0
+          || stands(store, image, &lines[count - 1], &before) != 0;
+    if (bad) {
+        store_cancel(store);
+        return COMMIT_NOT_DONE;
     }
-    return have;
+    start_wait(store);
+    return run(store, COMMIT) == 0 ? COMMIT_DONE : after_error(store, &lines[count - 1].hash);
 }
 
-int image_read(const char *path, uint8_t image[CRZ_IMAGE_LENGTH])
+/* ── Walking ───────────────────────────────────────────────────────────────────────────────────── */
+
+/* The next lines, a batch at most: a lock is held no longer than that takes. */
+static int read_batch(struct store *store, uint64_t first, uint64_t last, struct line *lines, int *count)
 {
-    uint8_t bytes[CRZ_IMAGE_LENGTH + 1];
-    int file = open(path, O_RDONLY | O_CLOEXEC);
-    if (file < 0)
-        return trouble(path, "cannot open");
-    ssize_t have = read_whole(file, bytes);
-    if (have < 0)
-        trouble(path, "cannot read");
-    close(file);
-    if (have >= 0 && have != CRZ_IMAGE_LENGTH)
-        fprintf(stderr, "crz: %s: not a zone's image: it must have %d bytes\n", path, CRZ_IMAGE_LENGTH);
-    if (have != CRZ_IMAGE_LENGTH)
+    sqlite3_stmt *rows = statement(store, READ_LINES);
+    start_wait(store);
+    *count = 0;
+    if (rows == NULL)
         return -1;
-    memcpy(image, bytes, CRZ_IMAGE_LENGTH);
+    if (sqlite3_bind_int64(rows, 1, (sqlite3_int64)first) != SQLITE_OK
+        || sqlite3_bind_int64(rows, 2, (sqlite3_int64)last) != SQLITE_OK
+        || sqlite3_bind_int(rows, 3, BATCH) != SQLITE_OK)
+        return failed(store);
+    return read_lines(store, rows, lines, BATCH, count);
+}
+
+static int visit_batch(const struct line *lines, int count, visit_line *visit, void *context)
+{
+    int result = 0;
+    for (int i = 0; i < count && result == 0; i++)
+        result = visit(context, &lines[i]);
+    return result;
+}
+
+int store_walk(struct store *store, uint64_t first, uint64_t last, visit_line *visit, void *context)
+{
+    struct line *lines = malloc(BATCH * sizeof *lines);
+    int count = BATCH, result = 0;
+    if (lines == NULL)
+        return report(store->name, "no memory");
+    while (first <= last && count == BATCH && result == 0) {
+        int bad = read_batch(store, first, last, lines, &count);
+        result = visit_batch(lines, count, visit, context);
+        result = result == 0 ? bad : result;
+        if (count > 0)
+            first = lines[count - 1].sequence + 1;
+    }
+    free(lines);
+    return result;
+}
+
+enum { FINDING = 128 };
+
+static int first_finding(void *context, int columns, char **values, char **names)
+{
+    char *finding = context;
+    (void)names;
+    if (columns == 1 && values[0] != NULL)
+        snprintf(finding, FINDING, "%s", values[0]);
+    for (char *end = strchr(finding, '\n'); end != NULL; end = strchr(finding, '\n'))
+        *end = ' ';
     return 0;
+}
+
+static int quick_check(struct store *store)
+{
+    char finding[FINDING] = "";
+    if (sqlite3_exec(store->base, "PRAGMA quick_check(1)", first_finding, finding, NULL) != SQLITE_OK)
+        return failed(store);
+    return strcmp(finding, "ok") == 0 ? 0 : damaged(store, finding);
+}
+
+int store_judge(struct store *store)
+{
+    start_wait(store);
+    if (execute(store, "BEGIN") != 0)
+        return -1;
+    int bad = quick_check(store) != 0 || judge_place(store) != 0;
+    store_cancel(store);
+    return bad ? -1 : 0;
 }

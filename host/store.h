@@ -1,26 +1,67 @@
-/* The image's file. A kill at any moment leaves the old image or the new one. */
+/*
+ * The store of a zone: one file with the image and the journal, committed together. Nothing of the engine behind it is
+ * seen here. It keeps bytes: hashes are made and judged by its users.
+ *
+ * Each function that returns an int returns 0, or -1 after a message that names the file.
+ */
 #ifndef STORE_H
 #define STORE_H
 
-#include <stdint.h>
+#include "journal.h"
 
-#include "../include/crz.h"
+enum { STORE_FORMAT = 1 };
 
-struct store {
-    char *path;   /* no link: all names of a zone share its lock */
-    char *next;   /* where the new image is written before it takes the old one's place */
-    char *folder;
-    int lock;     /* one caller at a time */
+enum store_use { STORE_READ, STORE_WRITE, STORE_VERIFY };
+
+struct store;
+
+/* What is kept beside the journal. */
+struct kept {
+    uint8_t image[CRZ_IMAGE_LENGTH];
+    struct hash last_hash; /* of the last line */
 };
 
-/* Each returns 0, or -1 after a message on standard error. */
-int store_open(struct store *store, const char *name);
-int store_create(const struct store *store, const uint8_t image[CRZ_IMAGE_LENGTH]);
-int store_replace(const struct store *store, const uint8_t image[CRZ_IMAGE_LENGTH]);
+/* The newest state: the image, the last line and the hash of the line before it, zeros before line 0. */
+struct newest {
+    struct kept kept;
+    struct line last;
+    struct hash before;
+};
 
-/* Reads the image; a reader needs no lock, since an image is replaced whole. Returns as above. */
-int image_read(const char *path, uint8_t image[CRZ_IMAGE_LENGTH]);
+enum commit { COMMIT_DONE, COMMIT_NOT_DONE, COMMIT_UNSURE };
 
+/* Makes the file, whole or not at all; a file that exists stays as it is. */
+int store_create(const char *path, const uint8_t image[CRZ_IMAGE_LENGTH], const struct line *start);
+
+/* NULL after a message. Every wait for another program ends after `wait` seconds. */
+struct store *store_open(const char *path, enum store_use use, unsigned wait);
 void store_close(struct store *store);
+
+/* Keeps other writers out until the next commit or cancel. */
+int store_begin(struct store *store);
+void store_cancel(struct store *store);
+
+/* Reads the newest state, all of one moment. */
+int store_read(struct store *store, struct newest *newest);
+
+/* Makes the image and the lines behind the last one durable, all or nothing; a message where it is not done. */
+enum commit store_commit(
+    struct store *store, const uint8_t image[CRZ_IMAGE_LENGTH], const struct line *lines, size_t count);
+
+/*
+ * Visits the lines from `first` to `last` in order, as far as they are there, until a visit returns another value than
+ * 0; returns that value. No lock is held during a visit: lines never change.
+ */
+typedef int visit_line(void *context, const struct line *line);
+int store_walk(struct store *store, uint64_t first, uint64_t last, visit_line *visit, void *context);
+
+/* Judges how the file is laid out, whatever the zone in it. */
+int store_judge(struct store *store);
+
+/* A message that the zone is damaged, and what its user can do. Returns -1. */
+int store_damaged(const char *path, enum store_use use, const char *what);
+
+const char *store_path(const struct store *store);
+const char *store_engine(void);
 
 #endif

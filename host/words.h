@@ -2,10 +2,51 @@
 #ifndef WORDS_H
 #define WORDS_H
 
-#include <stdint.h>
 #include <stdio.h>
 
-#include "../include/crz.h"
+#include "../include/crz_records.h"
+
+enum field {
+    FIELD_ACCOUNT,
+    FIELD_RECEIPT,
+    FIELD_CONTRACT,
+    FIELD_DAYS,
+    FIELD_FEN,
+    FIELD_YUAN,
+    FIELD_BASIS,
+    FIELD_KILOGRAMS,
+    FIELDS
+};
+
+struct field_words {
+    const char *word;
+    const char *name;                /* in JSON */
+    unsigned offset, width;          /* in the call record */
+    int64_t holds_least, holds_most; /* what the record's field can hold */
+    int64_t least, most, step;       /* what the library takes; a step of 1 where every number is taken */
+};
+
+/* Who may make a call. */
+enum party { PARTY_ANYONE, PARTY_OWNER, PARTY_SELLER, PARTY_BUYER, PARTY_NOT_SELLER, PARTY_HOST };
+
+enum { STATES = 8, MOST_WORDS = 32 };
+
+struct kind_words {
+    const char *word;
+    uint8_t kind;
+    unsigned takes; /* a bit for each field */
+    enum party party;
+    unsigned states; /* a bit for each state that it takes a lot from; 0 where it asks for no state */
+    const char *what;
+};
+
+extern const struct field_words fields[FIELDS];
+extern const char *const state_words[STATES];
+
+/* NULL where there is no such kind. */
+const struct kind_words *kind_of(uint32_t kind);
+int is_kind(const char *word);
+const char *party_words(enum party party);
 
 /*
  * Turns the words of one call into its record. Returns 0, or -1 with a message that names the word at fault.
@@ -13,7 +54,13 @@
  */
 int call_from_words(uint8_t call[CRZ_CALL_LENGTH], char **words, int count, char *message, size_t message_length);
 
-/* All kinds with the fields that each of them takes, one a line. */
-void print_kinds(FILE *to);
+/* What stands in a field of a call record. */
+int64_t call_field(const uint8_t call[CRZ_CALL_LENGTH], enum field field);
+
+/* A call record in words, as call_from_words takes them. */
+void print_call(const uint8_t call[CRZ_CALL_LENGTH]);
+
+/* All kinds with the fields that each of them takes, who may make it and what it does. */
+void print_kinds(void);
 
 #endif

@@ -1,131 +1,141 @@
 /*
- * Buffers of the named lengths and those beside them in every combination, length 0 at a null pointer: what is returned, what is
- * written, and that no byte outside a buffer changes. The last line is 'N passed, M failed'.
+ * Buffers of the named lengths and those beside them in every combination, between painted bytes, ending at a
+ * wall and starting at one, and a length of 0 also at a null pointer: what is returned, what is written, and that no
+ * byte outside a buffer is touched. The last line is 'N passed, M failed'.
  */
 #include "../include/crz.h"
+#include "lent.h"
 
 #include <stdio.h>
 #include <string.h>
 
-enum { GUARD = 64, MOST = 8192 };
+enum { FILL = 0xa5, PAID_IN = 7 };
 
-static uint8_t image[GUARD + MOST], call[GUARD + MOST], answer[GUARD + MOST], before[MOST];
+/* lengths of a call's three buffers */
+struct lengths {
+    size_t image, call, answer;
+};
+
+static struct lent image, call, answer;
+static uint8_t image_before[LENT_MOST], call_before[LENT_MOST];
 static unsigned long passed, failed;
 
-static void expect(int ok, const char *what, size_t a, size_t b, size_t c)
+static void expect(int good, const char *what, enum lent_place place, const struct lengths *of)
 {
-    if (ok) {
+    if (good) {
         passed++;
-    } else {
-        failed++;
-        printf("failed: %s (%lu, %lu, %lu)\n", what, (unsigned long)a, (unsigned long)b, (unsigned long)c);
+        return;
     }
+    failed++;
+    printf("failed: %s (place %d, lengths %lu, %lu, %lu)\n", what, (int)place, (unsigned long)of->image,
+        (unsigned long)of->call, (unsigned long)of->answer);
 }
 
-static int all(const uint8_t *p, size_t n, uint8_t value)
+static int all(const uint8_t *bytes, size_t count, uint8_t value)
 {
-    while (n--)
-        if (*p++ != value)
+    while (count-- > 0)
+        if (*bytes++ != value)
             return 0;
     return 1;
 }
 
-static int guarded(const uint8_t *buffer, size_t len)
+static uint32_t number_of(const struct lengths *of)
 {
-    return all(buffer, GUARD, 0xc3) && all(buffer + GUARD + len, MOST - len, 0xc3);
+    if (of->answer < CRZ_ANSWER_LENGTH)
+        return CRZ_NUMBER_SHORT_ANSWER;
+    if (of->image != CRZ_IMAGE_LENGTH)
+        return CRZ_NUMBER_BAD_IMAGE;
+    return of->call == CRZ_CALL_LENGTH ? CRZ_NUMBER_ACCEPTED : CRZ_NUMBER_BAD_CALL;
 }
 
-static uint32_t number(size_t image_len, size_t call_len, size_t answer_len)
+/* a fresh image and a pay-in for account 1, cut, or lengthened with zeros */
+static void lend_all(enum lent_place place, const struct lengths *of)
 {
-    if (answer_len < CRZ_ANSWER_LENGTH)
-        return CRZ_SHORT_ANSWER;
-    if (image_len != CRZ_IMAGE_LENGTH)
-        return CRZ_BAD_IMAGE;
-    return call_len == CRZ_CALL_LENGTH ? CRZ_ACCEPTED : CRZ_BAD_CALL;
+    memset(image_before, 0, sizeof image_before);
+    memset(call_before, 0, sizeof call_before);
+    crz_fresh(image_before, CRZ_IMAGE_LENGTH);
+    call_before[CRZ_CALL_KIND] = CRZ_KIND_PAY_IN;
+    call_before[CRZ_CALL_ACCOUNT] = 1;
+    call_before[CRZ_CALL_AMOUNT] = PAID_IN;
+    lend_bytes(&image, place, image_before, of->image);
+    lend_bytes(&call, place, call_before, of->call);
+    lend_filled(&answer, place, FILL, of->answer);
 }
 
-/* a fresh image, cut, or lengthened with zeros */
-static void lend_image(size_t len)
+/* with `null`, a buffer without bytes is a null pointer */
+static uint32_t make_call(int null)
 {
-    memset(before, 0, sizeof before);
-    crz_fresh(before, CRZ_IMAGE_LENGTH);
-    memset(image, 0xc3, sizeof image);
-    memcpy(image + GUARD, before, len);
+    return crz_call(null && image.len == 0 ? NULL : image.bytes, image.len, null && call.len == 0 ? NULL : call.bytes,
+        call.len, null && answer.len == 0 ? NULL : answer.bytes, answer.len);
 }
 
-/* a pay-in of 7 fen for account 1, cut, or lengthened with zeros */
-static void lend_call(size_t len)
+/* the total in both, and no entry */
+static int paid_in(void)
 {
-    memset(call, 0xc3, sizeof call);
-    memset(call + GUARD, 0, len);
-    if (len > CRZ_CALL_AMOUNT) {
-        call[GUARD + CRZ_CALL_KIND] = CRZ_PAY_IN;
-        call[GUARD + CRZ_CALL_ACCOUNT] = 1;
-        call[GUARD + CRZ_CALL_AMOUNT] = 7;
-    }
+    return image.bytes[CRZ_IMAGE_TOTAL] == PAID_IN && answer.bytes[CRZ_ANSWER_TOTAL] == PAID_IN
+           && all(answer.bytes + CRZ_ANSWER_ENTRIES, CRZ_ANSWER_LENGTH - CRZ_ANSWER_ENTRIES, 0);
 }
 
-static void lend(size_t image_len, size_t call_len, size_t answer_len)
+/* what a call of this number leaves in the answer's first 1,040 bytes */
+static int answered(uint32_t number)
 {
-    lend_image(image_len);
-    lend_call(call_len);
-    memset(answer, 0xc3, sizeof answer);
-    memset(answer + GUARD, 0xa5, answer_len);
+    if (number == CRZ_NUMBER_SHORT_ANSWER)
+        return all(answer.bytes, answer.len, FILL);
+    if (number == CRZ_NUMBER_ACCEPTED)
+        return paid_in();
+    return answer.bytes[CRZ_ANSWER_NUMBER] == number && all(answer.bytes + 1, CRZ_ANSWER_LENGTH - 1, 0);
 }
 
-/* the total, and no entry */
-static int paid_in(const uint8_t *out)
+static void try_call(enum lent_place place, int null, const struct lengths *of)
 {
-    return out[CRZ_ANSWER_TOTAL] == 7 && all(out + CRZ_FIRST_ENTRY, CRZ_ANSWER_LENGTH - CRZ_FIRST_ENTRY, 0) && image[GUARD + CRZ_IMAGE_TOTAL] == 7;
+    uint32_t wanted = number_of(of);
+    lend_all(place, of);
+    expect(make_call(null) == wanted, "the number", place, of);
+    expect(lent_kept(&image) && lent_kept(&call) && lent_kept(&answer), "bytes around the buffers", place, of);
+    expect(memcmp(call.bytes, call_before, call.len) == 0, "the call record stays", place, of);
+    expect(answered(wanted), "the answer", place, of);
+    if (wanted != CRZ_NUMBER_ACCEPTED)
+        expect(memcmp(image.bytes, image_before, image.len) == 0, "the image of a refusal", place, of);
+    if (wanted != CRZ_NUMBER_SHORT_ANSWER)
+        expect(
+            all(answer.bytes + CRZ_ANSWER_LENGTH, answer.len - CRZ_ANSWER_LENGTH, FILL), "bytes past 1,040", place, of);
 }
 
-static void lengths(size_t image_len, size_t call_len, size_t answer_len)
+static void try_fresh(enum lent_place place, int null, size_t len)
 {
-    uint32_t want = number(image_len, call_len, answer_len), got;
-    uint8_t *out = answer + GUARD;
-    lend(image_len, call_len, answer_len);
-    got = crz_call(image_len ? image + GUARD : NULL, image_len, call_len ? call + GUARD : NULL, call_len, answer_len ? out : NULL, answer_len);
-    expect(got == want, "the number", image_len, call_len, answer_len);
-    expect(guarded(image, image_len) && guarded(call, call_len) && guarded(answer, answer_len), "guard bytes", image_len, call_len, answer_len);
-    if (want != CRZ_ACCEPTED)
-        expect(memcmp(before, image + GUARD, image_len) == 0, "the image of a refusal", image_len, call_len, answer_len);
-    if (want == CRZ_SHORT_ANSWER)
-        expect(all(out, answer_len, 0xa5), "nothing is written", image_len, call_len, answer_len);
-    else if (want != CRZ_ACCEPTED)
-        expect(out[0] == want && all(out + 1, CRZ_ANSWER_LENGTH - 1, 0), "the answer of a refusal", image_len, call_len, answer_len);
-    else
-        expect(paid_in(out), "the accepted call", image_len, call_len, answer_len);
-    if (want != CRZ_SHORT_ANSWER)
-        expect(all(out + CRZ_ANSWER_LENGTH, answer_len - CRZ_ANSWER_LENGTH, 0xa5), "bytes past 1,040", image_len, call_len, answer_len);
-}
-
-static void fresh(size_t len)
-{
-    uint32_t got;
-    memset(image, 0xc3, sizeof image);
-    memset(image + GUARD, 0xa5, len);
-    got = crz_fresh(len ? image + GUARD : NULL, len);
-    expect(got == (len == CRZ_IMAGE_LENGTH ? 0 : 2), "crz_fresh returns", len, 0, 0);
-    expect(guarded(image, len), "crz_fresh guard bytes", len, 0, 0);
+    const struct lengths of = {len, 0, 0};
+    uint32_t number;
+    lend_filled(&image, place, FILL, len);
+    number = crz_fresh(null && len == 0 ? NULL : image.bytes, len);
+    expect(number == (len == CRZ_IMAGE_LENGTH ? CRZ_NUMBER_ACCEPTED : CRZ_NUMBER_BAD_IMAGE), "crz_fresh", place, &of);
+    expect(lent_kept(&image), "bytes around a fresh image", place, &of);
     if (len != CRZ_IMAGE_LENGTH)
-        expect(all(image + GUARD, len, 0xa5), "crz_fresh writes nothing", len, 0, 0);
+        expect(all(image.bytes, len, FILL), "crz_fresh writes nothing", place, &of);
 }
 
 /* no byte, one byte, and each length that the interface names with the lengths beside it */
-static const size_t edges[] = {
-    0, 1, CRZ_CALL_LENGTH - 1, CRZ_CALL_LENGTH, CRZ_CALL_LENGTH + 1, CRZ_ANSWER_LENGTH - 1, CRZ_ANSWER_LENGTH, CRZ_ANSWER_LENGTH + 1,
-    CRZ_IMAGE_LENGTH - 1, CRZ_IMAGE_LENGTH, CRZ_IMAGE_LENGTH + 1
-};
+static const size_t edges[] = {0, 1, CRZ_CALL_LENGTH - 1, CRZ_CALL_LENGTH, CRZ_CALL_LENGTH + 1, CRZ_ANSWER_LENGTH - 1,
+    CRZ_ANSWER_LENGTH, CRZ_ANSWER_LENGTH + 1, CRZ_IMAGE_LENGTH - 1, CRZ_IMAGE_LENGTH, CRZ_IMAGE_LENGTH + 1};
 
 enum { EDGES = sizeof edges / sizeof edges[0] };
 
-int main(void)
+static void try_all(enum lent_place place, int null)
 {
     size_t i;
-    for (i = 0; i < EDGES * EDGES * EDGES; i++)
-        lengths(edges[i / (EDGES * EDGES)], edges[i / EDGES % EDGES], edges[i % EDGES]);
-    for (i = 0; i < EDGES; i++)
-        fresh(edges[i]);
+    for (i = 0; i < EDGES * EDGES * EDGES; i++) {
+        const struct lengths of = {edges[i / (EDGES * EDGES)], edges[i / EDGES % EDGES], edges[i % EDGES]};
+        try_call(place, null, &of);
+        if (i < EDGES)
+            try_fresh(place, null, edges[i]);
+    }
+}
+
+int main(void)
+{
+    int place;
+    for (place = 0; place < LENT_PLACES; place++)
+        try_all((enum lent_place)place, 0);
+    try_all(LENT_BETWEEN, 1);
     printf("%lu passed, %lu failed\n", passed, failed);
     return failed != 0;
 }

@@ -1,156 +1,278 @@
 #!/usr/bin/env bash
-# The host program end to end: its words, its refusals, its files, a business day, and kills in the middle of a script.
+# The host program's words: commands, calls, refusals, scripts, what a desk asks, and objects for programs.
 # Usage: tests/host.sh PROGRAM
-set -u
-crz=$(realpath "$1")
-here=$(cd "$(dirname "$0")/.." && pwd)
-work=$(mktemp -d)
-trap 'rm -rf "$work"' EXIT
-cd "$work" || exit 2
-passed=0 failed=0
+# shellcheck source=tests/host_common.sh
+. "$(dirname "$0")/host_common.sh"
 
-# holds NAME COMMAND..: the command succeeds
-holds() {
-    local name=$1
-    shift
-    if "$@"; then
-        passed=$((passed + 1))
-    else
-        failed=$((failed + 1))
-        echo "failed: $name"
-    fi
-}
-
-# ends STATUS TEXT ARGUMENTS..: the program ends with the status and has said the text
-ends() {
-    local status=$1 text=$2 said
-    shift 2
-    said=$("$crz" "$@" 2>&1)
-    local was=$?
-    holds "$* ends with $was, not $status: $said" test "$was" -eq "$status"
-    holds "$*: '$text' not in: $said" grep -qF -- "$text" <<<"$said"
-}
-
+# ── Commands and options ────────────────────────────────────────────────────────────────────────────
 ends 2 "crz new FILE"
-ends 2 "crz new FILE" new
-ends 2 "crz new FILE" sell zone
-ends 2 "crz new FILE" show zone more
-ends 2 "cannot open" show zone
-ends 2 "cannot open" call zone day-close
+ends 0 "crz new FILE" --help
+ends 0 "crz new FILE" help
+ends 0 "crz 1.0.0, zone format 1, SQLite 3" --version
+for command in new call play show log verify statement due import export; do
+    ends 0 "crz $command FILE" help "$command"
+    ends 0 "crz $command FILE" "$command" --help
+    ends 2 "$command takes FILE" "$command"
+done
+ends 0 "limit-bid account N receipt N yuan N" help call
+ends 0 "any account but the seller" help call
+holds "crz new --help makes no zone" test ! -e --help
+ends 2 "'statment' is no command; did you mean 'statement'?" statment zone 1
+ends 2 "'hlep' is no command; did you mean 'help'?" hlep
+ends 2 "'--versoin' is no command; did you mean '--version'?" --versoin
+ends 2 "'pay-in' is a kind of call: 'crz call FILE pay-in ..'" pay-in zone
+ends 2 "'shwo' is no command; did you mean 'show'?" help shwo
+ends 2 "show: '--jsno' is no option of it; did you mean '--json'?" show zone --jsno
+ends 2 "show: '--stop' is no option of it" show zone --stop
+ends 2 "show takes FILE; 'more' is too much" show zone more
+ends 2 "log: --last: 'ten' is not a whole number" log zone --last ten
+ends 2 "log: --account: 97 is not in 1 to 96" log zone --account 97
+ends 2 "log: --lot has no value" log zone --lot
+ends 2 "log: --last is there twice" log zone --last 1 --last=2
+ends 2 "log: --head takes no value" log zone --head=1
+ends 2 "statement: account '0' is not in 1 to 96" statement zone 0
+ends 2 "statement: account 'eleven' is not a whole number" statement zone eleven
+ends 3 "there is no such file" show zone
+ends 3 "there is no such file" call zone day-close
+ends 3 "the call was not made" call zone day-close
 holds "a call on no zone leaves no file" test ! -e zone
-ends 0 "" new zone
-ends 2 "cannot make a new zone" new zone
-ends 2 "no kind of call" call zone sell
+ends 0 "zone: a fresh zone, sequence 0" new zone
+ends 3 "zone: exists already and stays as it is" new zone
+ends 0 "--odd: a fresh zone" new -- --odd
+ends 0 "day 1, morning" show -- --odd
+
+# ── Calls in words ──────────────────────────────────────────────────────────────────────────────────
+ends 2 "'sell' is no kind of call" call zone sell
+ends 2 "'limit-bit' is no kind of call; did you mean 'limit-bid'?" call zone limit-bit
 ends 2 "'fen' is missing" call zone pay-in account 3
 ends 2 "'fen' has no value" call zone pay-in account 3 fen
 ends 2 "is there twice" call zone pay-in account 3 account 3 fen 1
 ends 2 "is not one of its fields" call zone pay-in account 3 yuan 1
-ends 2 "is no field" call zone pay-in account 3 money 1
+ends 2 "pay-in: 'acount' is no field; did you mean 'account'?" call zone pay-in acount 3 fen 1
 ends 2 "not a whole number" call zone pay-in account 3 fen 1.5
 ends 2 "not a whole number" call zone pay-in account 3 fen ""
-ends 2 "does not fit" call zone pay-in account 256 fen 1
+ends 2 "not a whole number" call zone pay-in account 3 fen -
+ends 2 "grouped in another way" call zone pay-in account 3 fen 12,34
+ends 2 "grouped in another way" call zone pay-in account 3 fen 1234,567
+ends 2 "grouped in another way" call zone pay-in account 3 fen ,123
+ends 2 "account: 256 does not fit; it takes 1 to 96" call zone pay-in account 256 fen 1
 ends 2 "does not fit" call zone pay-in account 3 fen -1
-ends 2 "does not fit" call zone pay-in account 3 fen 99999999999999999999
-ends 1 "refused 4: a field is out of range" call zone pay-in account 97 fen 1
-ends 1 "refused 5" call zone day-close
-ends 1 "refused 11: not enough free money" call zone take-out account 3 fen 1
-ends 0 "accepted: morning, total 1,234,567 fen" call zone pay-in account 3 fen 1234567
+ends 2 "is too large" call zone pay-in account 3 fen 99999999999999999999
+holds "bad words leave no line" test "$(sequence zone)" -eq 0
+ends 0 "accepted, sequence 1: morning, total 1,234,567 fen" call zone pay-in account 3 fen 1,234,567
 ends 0 "1,234,567" show zone
-ends 0 "lot 128: registered, owner 96" call zone register account 96 receipt 128 kilograms 60000
-ends 0 "lot 128: listed, seller 96" call zone list account 96 receipt 128 contract 8 days 3 basis-yuan -50000
-ends 0 "basis -50000 yuan" show zone
 
-# A bad line is found before the first call is made.
-printf 'pay-in account 1 fen 5\n\n# remark\nsell account 1\n' >script
-before=$(sha256sum zone)
-ends 2 "script, line 4: 'sell' is no kind of call" play zone script
-holds "a bad line leaves the zone" test "$before" = "$(sha256sum zone)"
-ends 2 "cannot open" play zone nothing
+# ── Refusals say what they see ──────────────────────────────────────────────────────────────────────
+ends 1 "refused 4, sequence 2: a field is out of range: account 97 is not in 1 to 96" call zone pay-in account 97 fen 1
+ends 1 "fen 0 is not in 1 to 1,000,000,000,000" call zone pay-in account 3 fen 0
+ends 1 "account 0 is not in 1 to 96; fen 0 is not in" call zone pay-in account 0 fen 0
+ends 1 "yuan 15003 is no multiple of 5" call zone limit-bid account 3 receipt 1 yuan 15003
+ends 1 "basis-yuan 50,001 is not in -50,000 to 50,000" \
+    call zone list account 3 receipt 1 contract 1 days 0 basis-yuan 50001
+ends 1 "refused 5" call zone day-close
+ends 1 "it is the morning of day 1; morning-close comes first" call zone day-close
+ends 1 "refused 6" call zone list account 3 receipt 1 contract 1 days 0 basis-yuan 0
+ends 1 "receipt 1 is not registered" call zone lodge account 3 receipt 1
+ends 0 "lot 1: registered, owner 3" call zone register account 3 receipt 1 kilograms 41,237
+ends 1 "receipt 1 is registered already, its owner is 3" call zone register account 4 receipt 1 kilograms 41237
+ends 1 "lot 1 is in state 'idle', limit-bid needs 'listed' or 'bid stands'" \
+    call zone limit-bid account 4 receipt 1 yuan 15000
+ends 1 "refused 7" call zone list account 4 receipt 1 contract 1 days 0 basis-yuan 0
+ends 1 "account 4 is not the owner of lot 1, who is 3" call zone list account 4 receipt 1 contract 1 days 0 basis-yuan 0
+ends 0 "lot 1: listed, seller 3" call zone list account 3 receipt 1 contract 1 days 0 basis-yuan -14,999
+ends 1 "account 3 is the seller of lot 1" call zone limit-bid account 3 receipt 1 yuan 15000
+ends 1 "account 4 is not the seller of lot 1, who is 3" call zone withdraw-listing account 4 receipt 1
+ends 1 "refused 9" call zone market-bid account 4 receipt 1
+ends 1 "contract 1 has no ask today" call zone market-bid account 4 receipt 1
+ends 1 "price 14,995 and basis -14,999 make -4 yuan per tonne" call zone limit-bid account 4 receipt 1 yuan 14995
+ends 1 "account 4 has 0 fen free, limit-bid needs 5,000,000 fen" call zone limit-bid account 4 receipt 1 yuan 15000
+ends 1 "account 3 has 1,234,567 fen free, take-out needs 1,234,568 fen" call zone take-out account 3 fen 1234568
+ends 0 "accepted" call zone pay-in account 4 fen 5000000
+ends 0 "bid stands, buyer 4, seller 3, 15,000 yuan per tonne" call zone limit-bid account 4 receipt 1 yuan 15000
+ends 1 "the bid is 15,000, the standing bid 15,000 yuan per tonne" call zone limit-bid account 5 receipt 1 yuan 15000
+ends 1 "account 5 is not the buyer of lot 1, who is 4" call zone withdraw-bid account 5 receipt 1
+ends 0 "struck, buyer 4, seller 3" call zone quote contract 1 yuan 15000
+ends 0 "seller 3 must lodge" due zone
+ends 0 "lodged" call zone lodge account 3 receipt 1
+ends 0 "settled" call zone morning-close
+ends 1 "it is the afternoon of day 1, its morning close is made" call zone morning-close
+ends 0 "first payment, buyer 4, seller 3, 3,299 fen" call zone first-payment account 3 receipt 1
+ends 1 "no invoice waits for a confirmation" call zone confirm account 4 receipt 1
+ends 1 "the invoice is 4,125 fen, 4,124 fen are left to invoice" call zone invoice account 3 receipt 1 fen 4125
+ends 0 "invoiced" call zone invoice account 3 receipt 1 fen 100
+ends 1 "an invoice of 100 fen waits for its confirmation" call zone invoice account 3 receipt 1 fen 100
+ends 0 "left to invoice 4,024 fen" show zone
+ends 0 "full payment 4,124 fen, rest 825 fen, held from the buyer 825 fen" show zone
+for _ in $(seq 1000); do echo "pay-in account 9 fen 1,000,000,000,000"; done >rich
+"$crz" new rich.zone >/dev/null
+ends 1 "with 1,000,000,000,000 fen more it would pass 1,000,000,000,000,000" \
+    play rich.zone <(cat rich; echo pay-in account 9 fen 1,000,000,000,000)
+ends 0 "replay: 1,001 calls compared, 1,000 accepted and 1 refused" verify rich.zone
+
+# ── Scripts ─────────────────────────────────────────────────────────────────────────────────────────
+"$crz" new script.zone >/dev/null
+printf 'pay-in account 1 fen 5\n\n# remark\nsell account 1\npay-in account 1\n  take-out account 1 fen 1 # remark\nqoute contract 1 yuan 5\n' >script
+ends 2 "script: line 4: 'sell' is no kind of call" play script.zone script
+ends 2 "script: line 5: pay-in: 'fen' is missing" play script.zone script
+ends 2 "script: line 7: 'qoute' is no kind of call; did you mean 'quote'?" play script.zone script
+ends 2 "script: 3 bad lines; no call was made" play script.zone script
+ends 3 "nothing: cannot be opened" play script.zone nothing
+ends 3 "cannot be read" play script.zone .
 printf '# remark\npay-in account 1 \0fen 5\n' >script
-ends 2 "script, line 2: the line has a zero byte" play zone script
+ends 2 "script: line 2: the line has a zero byte" play script.zone script
 printf 'pay-in account 1 fen 5\0' >script
-ends 2 "script, line 1: the line has a zero byte" play zone script
-printf 'pay-in account 1 fen %490d\n' 5 >script
-ends 2 "script, line 1: the line is longer than 510 bytes" play zone script
-holds "bad lines leave the zone" test "$before" = "$(sha256sum zone)"
+ends 2 "script: line 1: the line has a zero byte" play script.zone script
+printf 'pay-in account 1 fen %490d\nsell\n' 5 >script
+ends 2 "script: line 1: the line is longer than 510 bytes" play script.zone script
+ends 2 "script: line 2: 'sell' is no kind of call" play script.zone script
+printf '\377\376p\0a\0' >script
+ends 3 "is not UTF-8 text" play script.zone script
+holds "bad lines leave no line in the journal" test "$(sequence script.zone)" -eq 0
 printf 'pay-in account 1 fen %489d\ntake-out account 1 fen 5' 5 >script
-ends 0 "accepted: morning, total 1,234,572 fen" play zone script
-ends 0 "total 1,234,567 fen" show zone
+ends 0 "2 calls: 2 accepted, 0 refused" play script.zone script
+printf '\357\273\277pay-in account 1 fen 1,000\r\n\r\ntake-out account 1 fen 1000\r\n' >script
+ends 0 "2 calls: 2 accepted, 0 refused" play script.zone script
 printf 'take-out account 1 fen 5\npay-in account 1 fen 5\n' >script
-ends 1 "refused 11" play zone script
-ends 0 "total 1,234,572 fen" show zone
+ends 1 "2 calls: 1 accepted, 1 refused" play script.zone script
+ends 1 "1 call: 0 accepted, 1 refused; stopped, 2 not made" play script.zone --stop <(echo take-out account 1 fen 6; cat script)
+holds "the script - is standard input" test "$(echo take-out account 1 fen 5 | "$crz" play script.zone - | tail -n 1)" = \
+    "1 call: 1 accepted, 0 refused"
+ends 0 "0 calls: 0 accepted, 0 refused" play script.zone /dev/null
 
-# Images that are none.
-head -c 5695 zone >short
-ends 2 "must have 5696 bytes" show short
-{ cat zone; printf '\0'; } >long
-ends 2 "must have 5696 bytes" call long day-close
-{ printf '\377'; tail -c +2 zone; } >damaged
-before=$(sha256sum damaged)
-ends 2 "the image is not valid" show damaged
-ends 2 "the image is not valid" call damaged morning-close
-holds "a damaged image stays" test "$before" = "$(sha256sum damaged)"
+# ── A retry cannot act twice ────────────────────────────────────────────────────────────────────────
+"$crz" new expect.zone >/dev/null
+ends 0 "accepted, sequence 1" call expect.zone --expect 0 pay-in account 1 fen 7
+ends 3 "the journal's last sequence number is 1, not 0 as --expect asks" call expect.zone --expect 0 pay-in account 1 fen 7
+ends 3 "the call was not made" call expect.zone --expect=2 pay-in account 1 fen 7
+printf 'pay-in account 1 fen 1\npay-in account 1 fen 1\n' >script
+ends 0 "accepted, sequence 3" play expect.zone script --expect 1
+ends 3 "of the script's 2 calls 0 were made" play expect.zone script --expect 1
+holds "what --expect holds back is not made" test "$(total expect.zone)" -eq 9
 
-# The business day.
-"$crz" new day && "$crz" play day "$here/host/day.txt" >said
+# ── The business day ────────────────────────────────────────────────────────────────────────────────
+"$crz" new day >/dev/null && "$crz" play day "$here/host/day.txt" >said
 holds "the day is accepted" test $? -eq 0
-for line in "settled, buyer 11, seller 1, 63,092,610 fen" "buyer default, buyer 13" "seller default, seller 3" "struck, buyer 13, seller 2" \
-    "penalty, seller 3, buyer 14, 5,000,000 fen"; do
+for line in "settled, buyer 11, seller 1, 63,092,610 fen" "buyer default, buyer 13" "seller default, seller 3" \
+    "struck, buyer 13, seller 2" "penalty, seller 3, buyer 14, 5,000,000 fen" "> pay-in account 11 fen 100,000,000"; do
     holds "the day has: $line" grep -qF "$line" said
 done
 holds "no lot is struck for the mill that withdrew" test "$(grep -c 'struck, buyer 12' said)" -eq 0
-"$crz" show day >said
-holds "the day's end" grep -qF "day 2, afternoon, total 166,000,000 fen" said
+ends 0 "day 2, afternoon, total 166,000,000 fen" show day
+ends 0 "replay: 34 calls compared, 34 accepted and 0 refused" verify day
+ends 0 "history: the books and frozen money of 96 accounts" verify day
 
-# A call keeps the mode of the image, whatever the caller's own.
-for mode in 600 640 666; do
-    chmod "$mode" zone
-    (umask 027 && "$crz" call zone pay-in account 3 fen 1 >/dev/null)
-    holds "a call keeps mode $mode" test "$(stat -c %a zone)" = "$mode"
+# ── What a desk asks ────────────────────────────────────────────────────────────────────────────────
+ends 0 "0  20" log day
+ends 0 "start with a fresh zone" log day
+holds "the log has every line" test "$("$crz" log day | grep -c '^[0-9]')" -eq 35
+holds "the log's last lines" test "$("$crz" log day --last 2 | grep '^[0-9]' | sed 's/ .*//' | tr '\n' ' ')" = "33 34 "
+holds "no last line" test -z "$("$crz" log day --last 0)"
+holds "lines of an account" test "$("$crz" log day --account 13 | grep '^[0-9]' | sed 's/ .*//' | tr '\n' ' ')" = "3 20 22 25 26 "
+holds "the last line of an account" test "$("$crz" log day --account 13 --last 1 | grep '^[0-9]' | sed 's/ .*//')" = 26
+holds "lines of a lot" test "$("$crz" log day --lot 3 | grep '^[0-9]' | sed 's/ .*//' | tr '\n' ' ')" = "8 12 23 26 34 "
+holds "lines of a lot and an account" test "$("$crz" log day --lot 3 --account 14 | grep -c '^[0-9]')" -eq 3
+holds "the log's words make a script" cmp -s <("$crz" log day | sed -n 's/^[1-9][0-9]*  [^ ]*  //p') \
+    <("$crz" new again >/dev/null; "$crz" log day | sed -n 's/^[1-9][0-9]*  [^ ]*  //p' >script; "$crz" play again script |
+        sed -n 's/^> //p')
+holds "a replayed log is the same zone" cmp -s <("$crz" show day) <("$crz" show again)
+holds "the head is the last hash" grep -q "$("$crz" verify day | sed -n 's/.*last hash //p')" <("$crz" log day --head)
+ends 0 "sequence 34, 20" log day --head
+ends 0 "pay-ins 100,000,000 + received 0 - take-outs 0 - passed on 63,092,610 fen" statement day 11
+ends 0 "= free 36,907,390 + frozen 0 = 36,907,390 fen" statement day 11
+ends 0 "first payment, lot 1, to account 1" statement day 11
+ends 0 "buyer default, lot 2, from account 13" statement day 2
+ends 0 "penalty, lot 3, to account 14" statement day 3
+ends 0 "penalty, lot 3, from account 3" statement day 14
+ends 0 "the next morning close, of day 3 (tomorrow: today's is made), works 0 lots" due day
+sed '/^morning-close/,$d' "$here/host/day.txt" >script
+"$crz" new noon >/dev/null && "$crz" play noon script >/dev/null
+ends 0 "the next morning close, of day 1 (today), works 3 lots" due noon
+ends 0 "lot 1, due day 1: lodged, full payment 63,092,610 fen, seller 1 has lodged" due noon
+ends 0 "buyer 13 has 1,000,000 fen free and the deposit of 5,000,000 fen, lacks 56,118,000 fen" due noon
+ends 0 "lot 3, due day 1: struck, full payment 60,560,000 fen, seller 3 must lodge" due noon
+ends 0 "held for lot 1, lodged: 5,000,000 fen" statement noon 11
+ends 0 "held from the buyer 5,000,000 fen" show noon
+printf 'morning-close\n' | "$crz" play noon - >/dev/null
+ends 0 "seller 3 owes 5,000,000 fen to buyer 14" due noon
+ends 0 "(tomorrow: today's is made), works 1 lot" due noon
+
+# ── Objects for programs ────────────────────────────────────────────────────────────────────────────
+cat >objects.py <<'END'
+import json, sys
+kinds, names = {}, set()
+def collect(value):
+    for item in value if isinstance(value, list) else [value]:
+        if isinstance(item, dict):
+            names.update(item)
+            for inner in item.values():
+                collect(inner)
+for line in sys.stdin:
+    o = json.loads(line)
+    kinds.setdefault(o["type"], []).append(o)
+    collect(o)
+    assert all(not isinstance(v, float) for v in o.values()), o
+page = open(sys.argv[2]).read().replace('"', " ").replace(",", " ").split()
+assert not [n for n in names | set(kinds) if n not in page], "not in the man page"
+exec(sys.argv[1])
+END
+# objects PYTHON ARGUMENTS..: the program's output is objects, one a line, and the statement holds of them
+objects() {
+    local claim=$1
+    shift
+    holds "$*: $claim" python3 objects.py "$claim" "$here/host/crz.1" < <("$crz" "$@" --json)
+}
+objects 'assert len(kinds["call"]) == 34 and kinds["start"][0]["through"] == "crz_fresh"' log day
+objects 'assert kinds["call"][0]["call"] == {"kind": "pay-in", "account": 11, "fen": 100000000}' log day
+objects 'assert [e["fen"] for c in kinds["call"] for e in c["entries"] if e["outcome"] == "settled"] == [63092610]' log day
+objects 'assert [e["yuan"] for c in kinds["call"] for e in c["entries"] if e["outcome"] == "struck"] == [15000, 14990, 14990]' log day
+objects 'assert len(kinds["head"][0]["hash"]) == 64 and kinds["head"][0]["sequence"] == 34' log day --head
+objects 'assert kinds["zone"][0] == {"type": "zone", "day": 2, "phase": "afternoon", "total_fen": 166000000}' show day
+objects 'assert sum(a["free_fen"] + a["frozen_fen"] for a in kinds["account"]) == 166000000' show day
+objects 'assert kinds["lot"][0]["owner"] == 11 and kinds["lot"][0]["full_fen"] is None' show day
+objects 'assert len(kinds["contract"]) == 8 and len(kinds["lot"]) == 4' show day
+objects 'b = kinds["balance"][0]; assert b["pay_ins_fen"] - b["passed_fen"] == b["free_fen"] == 36907390' statement day 11
+objects 'assert [m["out_fen"] for m in kinds["movement"]] == [None, 50474088, 6000000, 6618522]' statement day 11
+objects 'assert kinds["close"][0]["lots"] == 1 and kinds["due"][0]["penalty_fen"] == 5000000' due noon
+objects 'c = kinds["call"][0]; assert c["accepted"] and c["number"] == 0 and c["sequence"] == 35 and c["reason"] is None' \
+    call day pay-in account 96 fen 3
+objects 'c = kinds["call"][0]; assert not c["accepted"] and c["seen"].startswith("account 97") and c["total_fen"] is None' \
+    call day pay-in account 97 fen 3
+printf 'pay-in account 5 fen 1\ntake-out account 5 fen 2\n' >script
+objects 'assert len(kinds["call"]) == 2 and kinds["played"][0] == {"type": "played", "calls": 2, "accepted": 1, "refused": 1, "not_made": 0}' \
+    play day script
+
+# ── Raw images ──────────────────────────────────────────────────────────────────────────────────────
+ends 0 "day.image: the image after sequence 38" export day day.image
+holds "an image is 5,696 bytes" test "$(stat -c %s day.image)" -eq 5696
+ends 3 "exists already" export day day.image
+ends 3 "if it is a raw image, 'crz import ZONE day.image'" show day.image
+ends 0 "moved: a zone with that image, sequence 0" import moved day.image
+holds "an imported zone is the same" cmp -s <("$crz" show day) <("$crz" show moved)
+ends 0 "accepted, sequence 1" call moved pay-in account 11 fen 10
+ends 0 "at the start 36,907,390 + pay-ins 10" statement moved 11
+ends 0 "start with an imported image: day 2, afternoon" log moved
+ends 0 "need a start from a fresh zone, this one was imported" verify moved
+ends 0 "replay: 1 call compared" verify moved
+ends 3 "exists already" import moved day.image
+head -c 5695 day.image >short
+ends 3 "is no raw image: an image has 5696 bytes" import short.zone short
+{ cat day.image; printf '\0'; } >long
+ends 3 "is no raw image" import long.zone long
+{ printf '\377'; tail -c +2 day.image; } >damaged
+ends 3 "is no valid image of a zone; no zone was made" import damaged.zone damaged
+holds "a bad image makes no zone" test ! -e short.zone -a ! -e long.zone -a ! -e damaged.zone
+
+# ── What the documents show ─────────────────────────────────────────────────────────────────────────
+mkdir readme guide guide/target
+(cd readme && python3 "$here/tests/host_samples.py" "$crz" "$here/README.md")
+holds "the README's samples" test $? -eq 0
+"$crz" new guide/target/day.crz >/dev/null && "$crz" play guide/target/day.crz "$here/host/day.txt" >/dev/null
+(cd guide && python3 "$here/tests/host_samples.py" "$crz" "$here/docs/GUIDE.md")
+holds "the guide's samples" test $? -eq 0
+for command in new call play show log verify statement due import export; do
+    holds "the man page has $command" grep -q "fBcrz $command" "$here/host/crz.1"
 done
-(umask 077 && "$crz" new private)
-holds "a new zone has the caller's mode" test "$(stat -c %a private)" = 600
-
-# A link and the file behind it are one zone: one image, one lock.
-mkdir elsewhere
-"$crz" new elsewhere/linked
-ln -s elsewhere/linked link
-ends 0 "total 5 fen" call link pay-in account 5 fen 5
-ends 0 "total 5 fen" show elsewhere/linked
-ends 0 "total 7 fen" call elsewhere/linked pay-in account 5 fen 2
-ends 0 "total 7 fen" show link
-holds "a link stays one" test -L link
-holds "a link has no lock of its own" test ! -e link.lock -a -e elsewhere/linked.lock
-ends 2 "cannot make a new zone" new link
-ln -s nothing dangling
-ends 2 "cannot make a new zone" new dangling
-
-# Two callers at once: no call is lost, by whatever name.
-"$crz" new shared
-for _ in $(seq 40); do echo "pay-in account 5 fen 1"; done >ones
-ln -s shared shared-too
-"$crz" play shared ones >/dev/null &
-"$crz" play shared-too ones >/dev/null &
-wait
-ends 0 "total 80 fen" show shared
-
-# A kill at any moment leaves the old image or the new one: what is shown afterwards is valid and never goes back.
-"$crz" new killed
-for _ in $(seq 5000); do echo "pay-in account 5 fen 1"; done >many
-last=0
-for round in $(seq 25); do
-    : >said
-    "$crz" play killed many >said 2>&1 &
-    # every other kill comes after the first answer, however slow the machine
-    while [ $((round % 2)) -eq 1 ] && [ ! -s said ]; do sleep 0.01; done
-    sleep "0.0$((RANDOM % 90 + 10))"
-    kill -9 $! 2>/dev/null
-    wait $! 2>/dev/null
-    told=$(grep -c '^accepted' said)
-    total=$("$crz" show killed | sed -n '1s/.*total \(.*\) fen/\1/p' | tr -d ,)
-    holds "round $round: $total fen after $last and $told answers" test -n "$total" -a "${total:-0}" -ge $((last + told))
-    last=${total:-0}
-done
-holds "the kills came in the middle of the script: $last" test "$last" -gt 0 -a "$last" -lt 125000
-echo "$passed passed, $failed failed"
-[ "$failed" -eq 0 ]
+if command -v groff >/dev/null 2>&1; then
+    holds "the man page is well formed" test -z "$(groff -man -ww -Tutf8 "$here/host/crz.1" 2>&1 >/dev/null)"
+fi
+finish

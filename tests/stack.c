@@ -1,21 +1,25 @@
 /*
- * The stack that the entries take, over the calls of the vectors: each call is made on a thread whose stack was painted before, and what
- * is painted no more was used. It is held to the bound that crz.h states. The last line is 'N passed, M failed'.
+ * The stack that the entries take, over the calls of the vectors: each is made on a thread whose stack was painted
+ * before, and what is painted no more was used. It is held to the bound that crz.h states. Usage: stack LIST. The last
+ * line is 'N passed, M failed'; a call that stays below the bound counts once.
  */
 #define _XOPEN_SOURCE 700
 
 #include "../include/crz.h"
-#include "each_file.h"
+#include "vector_file.h"
 
 #include <pthread.h>
 #include <stdio.h>
 #include <stdlib.h>
 #include <string.h>
 
-enum { STACK = 1 << 18, PAINT = 0xa5, BOUND = 16 * 1024, LINE = 1 << 16 };
+enum { STACK = 1 << 18, PAINT = 0xa5, BOUND = 16 * 1024 };
 
-static uint8_t image[CRZ_IMAGE_LENGTH], call[CRZ_CALL_LENGTH], answer[CRZ_ANSWER_LENGTH];
+static uint8_t image[VECTOR_MOST], answer[VECTOR_MOST];
 static unsigned char *stack;
+static const struct vector_step *step; /* what the thread makes */
+static uint32_t number;
+static size_t most, own;
 
 static void *nothing(void *none)
 {
@@ -24,79 +28,69 @@ static void *nothing(void *none)
 
 static void *make_fresh(void *none)
 {
-    crz_fresh(image, sizeof image);
+    number = crz_fresh(image, step->image_len);
     return none;
 }
 
 static void *make_call(void *none)
 {
-    crz_call(image, sizeof image, call, sizeof call, answer, sizeof answer);
+    number = crz_call(image, step->image_len, step->call, step->call_len, answer, step->answer_len);
     return none;
 }
 
-/* Bytes of stack that a thread used for the work. */
+/* bytes of stack that a thread used for the work */
 static size_t used(void *(*work)(void *))
 {
     pthread_attr_t attr;
     pthread_t thread;
     size_t i = 0;
     memset(stack, PAINT, STACK);
-    if (pthread_attr_init(&attr) || pthread_attr_setstack(&attr, stack, STACK) || pthread_create(&thread, &attr, work, NULL)
-        || pthread_join(thread, NULL))
+    if (pthread_attr_init(&attr) || pthread_attr_setstack(&attr, stack, STACK)
+        || pthread_create(&thread, &attr, work, NULL) || pthread_join(thread, NULL) || pthread_attr_destroy(&attr)) {
+        fprintf(stderr, "no thread with a stack of its own\n");
         exit(2);
+    }
     while (i < STACK && stack[i] == PAINT)
         i++;
     return STACK - i;
 }
 
-static size_t taken(void *(*work)(void *))
+/* beside what a thread takes that does nothing */
+static int within_bound(void *(*work)(void *), uint32_t wanted)
 {
-    size_t all = used(work), own = used(nothing);
-    return all > own ? all - own : 0;
+    size_t all = used(work), taken = all > own ? all - own : 0;
+    if (taken > most)
+        most = taken;
+    return number == wanted && taken < BOUND;
 }
 
-static unsigned digit(char c)
+static int make(const struct vector_step *next)
 {
-    return (unsigned)(c <= '9' ? c - '0' : c - 'a' + 10);
-}
-
-/* The record of a line 'C hex n', if it has the length of one. */
-static int read_record(const char *hex)
-{
-    size_t i;
-    for (i = 0; i < CRZ_CALL_LENGTH; i++) {
-        if (hex[2 * i] == ' ' || hex[2 * i + 1] == ' ')
-            return 0;
-        call[i] = (uint8_t)(digit(hex[2 * i]) * 16 + digit(hex[2 * i + 1]));
+    step = next;
+    switch (step->kind) {
+    case STEP_FRESH: return within_bound(make_fresh, CRZ_NUMBER_ACCEPTED);
+    case STEP_PATCH: patch_image(&step->patch, image); return 1;
+    case STEP_LENGTH: memset(image + step->image_len, 0, sizeof image - step->image_len); return 1;
+    default: return within_bound(make_call, step->number);
     }
-    return hex[2 * i] == ' ';
-}
-
-static void run(const char *path, unsigned long *passed, unsigned long *failed)
-{
-    static char line[LINE];
-    FILE *f = fopen(path, "r");
-    size_t most = 0, n = 0;
-    if (!f) {
-        perror(path);
-        exit(2);
-    }
-    while (fgets(line, sizeof line, f)) {
-        if (line[0] == 'Z')
-            n = taken(make_fresh);
-        else if (line[0] == 'C' && read_record(line + 2))
-            n = taken(make_call);
-        if (n > most)
-            most = n;
-    }
-    fclose(f);
-    printf("%s: %lu bytes of stack at most\n", path, (unsigned long)most);
-    *(most && most < BOUND ? passed : failed) += 1;
 }
 
 int main(int argc, char **argv)
 {
-    if (posix_memalign((void **)&stack, 4096, STACK))
+    struct tally tally = {0, 0};
+    void *memory;
+    if (argc != 2) {
+        fprintf(stderr, "usage: stack LIST\n");
         return 2;
-    return each_file(argc, argv, run);
+    }
+    if (posix_memalign(&memory, 4096, STACK))
+        return 2;
+    stack = memory;
+    used(nothing); /* the first thread of a program takes more */
+    own = used(nothing);
+    walk_vectors(argv[1], "", make, &tally);
+    printf("%lu bytes of stack at most\n", (unsigned long)most);
+    if (most == 0)
+        tally.failed++;
+    return show_tally(&tally);
 }

@@ -1,0 +1,406 @@
+#define _POSIX_C_SOURCE 200809L
+
+#include "commands.h"
+
+#include <errno.h>
+#include <inttypes.h>
+#include <stdio.h>
+#include <stdlib.h>
+#include <unistd.h>
+
+#include "digits.h"
+#include "file.h"
+#include "json.h"
+#include "print.h"
+#include "progress.h"
+#include "script.h"
+#include "statement.h"
+#include "verify.h"
+
+enum { LONGEST_MESSAGE = 256 };
+
+/* Whether all that was printed so far has gone out. */
+static int shown(void)
+{
+    return fflush(stdout) == 0 && !ferror(stdout);
+}
+
+/* ── Calls ─────────────────────────────────────────────────────────────────────────────────────── */
+
+static void show_made(const struct made *made, int json)
+{
+    if (json)
+        json_line(&made->line, made->found);
+    else
+        print_made(&made->line, made->found);
+}
+
+/* Makes a call and shows its answer, which is durable by then. */
+static enum status make_call(struct store *store, const uint8_t *call, const struct expect *expect, int json)
+{
+    static struct made made;
+    enum status status = zone_call(store, call, expect, &made);
+    if (status != STATUS_ACCEPTED && status != STATUS_REFUSED)
+        return status;
+    show_made(&made, json);
+    if (shown())
+        return status;
+    report(store_path(store),
+        "call %" PRIu64 " was made, but its answer could not be shown: %s; 'crz log --last 1' shows "
+        "it",
+        made.line.sequence, strerror(errno));
+    return STATUS_NOT_SHOWN;
+}
+
+enum status command_call(const struct request *request)
+{
+    const char *path = request->words[0];
+    uint8_t call[CRZ_CALL_LENGTH];
+    char message[LONGEST_MESSAGE];
+    struct expect expect = option_expect(request);
+    if (call_from_words(call, request->words + 1, request->count - 1, message, sizeof message) != 0) {
+        report(NULL, "%s; 'crz help call' lists every kind with its fields", message);
+        return STATUS_BAD_WORDS;
+    }
+    struct store *store = store_open(path, STORE_WRITE, option_wait(request));
+    enum status status = STATUS_NOTHING_DONE;
+    if (store != NULL)
+        status = make_call(store, call, &expect, option_given(request, OPTION_JSON));
+    store_close(store);
+    if (status == STATUS_NOTHING_DONE)
+        report(path, "the call was not made");
+    return status;
+}
+
+/* ── Scripts ───────────────────────────────────────────────────────────────────────────────────── */
+
+/* How far a script has been played. */
+struct played {
+    size_t made, accepted, refused;
+};
+
+/* What a script is played with. */
+struct playing {
+    struct store *store;
+    const struct script *script;
+    struct expect expect;
+    int json, stop;
+    struct played played;
+};
+
+static void count_made(struct playing *p, enum status status)
+{
+    p->played.made++;
+    p->expect.given = 0; /* it is asked of the first call alone */
+    ++*(status == STATUS_REFUSED ? &p->played.refused : &p->played.accepted);
+}
+
+/* The call in words comes out first: where nothing can be shown, nothing is made. */
+static enum status play_call(struct playing *p)
+{
+    const uint8_t *call = p->script->calls[p->played.made];
+    if (!p->json) {
+        fputs("> ", stdout);
+        print_call(call);
+        putchar('\n');
+    }
+    if (!shown()) {
+        report(store_path(p->store), "standard output cannot be written: %s", strerror(errno));
+        return STATUS_NOTHING_DONE;
+    }
+    enum status status = make_call(p->store, call, &p->expect, p->json);
+    if (status != STATUS_NOTHING_DONE)
+        count_made(p, status);
+    return status;
+}
+
+/* A refused call does not end the script unless --stop is given; trouble with the zone or the output does. */
+static enum status play_calls(struct playing *p)
+{
+    struct progress progress = progress_start(isatty(STDOUT_FILENO) ? NULL : "play", p->script->count);
+    enum status status = STATUS_ACCEPTED;
+    while (p->played.made < p->script->count && status <= (p->stop ? STATUS_ACCEPTED : STATUS_REFUSED)) {
+        status = play_call(p);
+        progress_show(&progress, p->played.made);
+    }
+    progress_end(&progress);
+    return status > STATUS_REFUSED ? status : p->played.refused > 0 ? STATUS_REFUSED : STATUS_ACCEPTED;
+}
+
+static void show_played(const struct playing *p)
+{
+    const struct played *n = &p->played;
+    size_t not_made = p->script->count - n->made;
+    if (!p->json) {
+        printf("%s call%s: %s accepted, %s refused", grouped(n->made).text, plural(n->made), grouped(n->accepted).text,
+            grouped(n->refused).text);
+        if (not_made > 0)
+            printf("; stopped, %s not made", grouped(not_made).text);
+        putchar('\n');
+        return;
+    }
+    json_open("played");
+    json_number("calls", n->made);
+    json_number("accepted", n->accepted);
+    json_number("refused", n->refused);
+    json_number("not_made", not_made);
+    json_close();
+}
+
+static enum status play(struct playing *p)
+{
+    enum status status = play_calls(p);
+    if (status <= STATUS_REFUSED)
+        show_played(p);
+    else
+        report(store_path(p->store), "of the script's %zu call%s %zu were made", p->script->count,
+            plural(p->script->count), p->played.made);
+    return status;
+}
+
+static enum status play_script(const struct request *request, const struct script *script)
+{
+    struct playing p = {.script = script,
+        .expect = option_expect(request),
+        .json = option_given(request, OPTION_JSON),
+        .stop = option_given(request, OPTION_STOP)};
+    p.store = store_open(request->words[0], STORE_WRITE, option_wait(request));
+    if (p.store == NULL) {
+        report(request->words[0], "no call was made");
+        return STATUS_NOTHING_DONE;
+    }
+    enum status status = play(&p);
+    store_close(p.store);
+    return status;
+}
+
+enum status command_play(const struct request *request)
+{
+    struct script script;
+    int bad = script_read(&script, request->words[1]);
+    enum status status = bad < 0 ? STATUS_NOTHING_DONE : STATUS_BAD_WORDS;
+    if (bad > 0)
+        report(request->words[1], "%d bad line%s; no call was made; 'crz help call' lists every kind", bad,
+            plural((uint64_t)bad));
+    if (bad == 0)
+        status = play_script(request, &script);
+    script_free(&script);
+    return status;
+}
+
+/* ── New zones ─────────────────────────────────────────────────────────────────────────────────── */
+
+/* The sequence number that a new zone begins with, for --expect. */
+static enum status show_new(enum status status, const char *path, const char *what)
+{
+    if (status != STATUS_ACCEPTED)
+        return status;
+    printf("%s: %s, sequence 0\n", path, what);
+    if (shown())
+        return status;
+    report(path, "the zone was made, but that could not be shown: %s", strerror(errno));
+    return STATUS_NOT_SHOWN;
+}
+
+enum status command_new(const struct request *request)
+{
+    return show_new(zone_new(request->words[0]), request->words[0], "a fresh zone");
+}
+
+enum status command_import(const struct request *request)
+{
+    return show_new(zone_import(request->words[0], request->words[1]), request->words[0], "a zone with that image");
+}
+
+/* ── Reading ───────────────────────────────────────────────────────────────────────────────────── */
+
+/* Opens the zone and reads its newest state; NULL after a message. */
+static struct store *open_read(const struct request *request, struct newest *newest)
+{
+    struct store *store = store_open(request->words[0], STORE_READ, option_wait(request));
+    if (store == NULL || zone_read(store, newest) == 0)
+        return store;
+    store_close(store);
+    return NULL;
+}
+
+/* The image alone. */
+static int read_image(const struct request *request, uint8_t image[CRZ_IMAGE_LENGTH])
+{
+    static struct newest newest;
+    struct store *store = open_read(request, &newest);
+    if (store == NULL)
+        return -1;
+    store_close(store);
+    memcpy(image, newest.kept.image, CRZ_IMAGE_LENGTH);
+    return 0;
+}
+
+enum status command_show(const struct request *request)
+{
+    uint8_t image[CRZ_IMAGE_LENGTH];
+    if (read_image(request, image) != 0)
+        return STATUS_NOTHING_DONE;
+    if (option_given(request, OPTION_JSON))
+        json_zone(image);
+    else
+        print_zone(image);
+    return STATUS_ACCEPTED;
+}
+
+enum status command_due(const struct request *request)
+{
+    uint8_t image[CRZ_IMAGE_LENGTH];
+    if (read_image(request, image) != 0)
+        return STATUS_NOTHING_DONE;
+    print_due(image, option_given(request, OPTION_JSON));
+    return STATUS_ACCEPTED;
+}
+
+enum status command_export(const struct request *request)
+{
+    static struct newest newest;
+    const char *path = request->words[1];
+    struct store *store = open_read(request, &newest);
+    store_close(store);
+    if (store == NULL || file_create(path, newest.kept.image, CRZ_IMAGE_LENGTH) != 0)
+        return STATUS_NOTHING_DONE;
+    printf("%s: the image after sequence %" PRIu64 "\n", path, newest.last.sequence);
+    return STATUS_ACCEPTED;
+}
+
+enum status command_verify(const struct request *request)
+{
+    struct store *store = store_open(request->words[0], STORE_VERIFY, option_wait(request));
+    enum status status = store == NULL ? STATUS_NOTHING_DONE : verify(store);
+    store_close(store);
+    return status;
+}
+
+enum status command_statement(const struct request *request)
+{
+    static struct newest newest;
+    int64_t account;
+    const char *fault = digits_read(request->words[1], &account);
+    if (fault == NULL && (account < 1 || account > CRZ_ACCOUNT_COUNT))
+        fault = "is not in 1 to 96";
+    if (fault != NULL) {
+        report(NULL, "statement: account '%s' %s", request->words[1], fault);
+        return STATUS_BAD_WORDS;
+    }
+    struct store *store = open_read(request, &newest);
+    if (store == NULL)
+        return STATUS_NOTHING_DONE;
+    enum status status = print_statement(store, &newest, (uint32_t)account, option_given(request, OPTION_JSON));
+    store_close(store);
+    return status;
+}
+
+/* ── The log ───────────────────────────────────────────────────────────────────────────────────── */
+
+/* Which lines are shown, and how. */
+struct listing {
+    uint32_t account, lot; /* 0 where every line is shown */
+    int json;
+    uint64_t first;      /* lines before it are left out */
+    uint64_t *sequences; /* of the lines found so far */
+    size_t count, room;
+};
+
+static int names(const struct listing *l, uint32_t lot, uint32_t account, uint32_t other)
+{
+    return (l->lot == 0 || lot == l->lot) && (l->account == 0 || account == l->account || other == l->account);
+}
+
+/* A line belongs to an account or a lot by its call record or by an entry of its answer. */
+static int is_listed(const struct listing *l, const struct line *line)
+{
+    uint32_t count = line->number == CRZ_NUMBER_ACCEPTED ? crz_get_answer(line->answer).count : 0;
+    struct crz_call_fields call = crz_get_call(line->call);
+    int found = names(l, call.receipt, call.account, 0);
+    for (uint32_t i = 0; i < count && !found; i++) {
+        struct crz_entry_fields entry = crz_get_entry(line->answer, i);
+        found = names(l, entry.lot, entry.from, entry.to);
+    }
+    return found;
+}
+
+static int show_line(void *context, const struct line *line)
+{
+    struct listing *l = context;
+    if (line->sequence < l->first || !is_listed(l, line))
+        return 0;
+    if (l->json)
+        json_line(line, NULL);
+    else
+        print_line(line);
+    return ferror(stdout) ? 1 : 0;
+}
+
+static int note_line(void *context, const struct line *line)
+{
+    struct listing *l = context;
+    if (!is_listed(l, line))
+        return 0;
+    if (l->count == l->room) {
+        size_t room = l->room == 0 ? 1024 : 2 * l->room;
+        uint64_t *sequences = realloc(l->sequences, room * sizeof *sequences);
+        if (sequences == NULL)
+            return report(NULL, "no memory");
+        l->sequences = sequences;
+        l->room = room;
+    }
+    l->sequences[l->count++] = line->sequence;
+    return 0;
+}
+
+/* Where the last lines begin. Lines without an account or a lot to look for need no search. */
+static int find_first(struct store *store, struct listing *l, uint64_t end, uint64_t last)
+{
+    if (l->account == 0 && l->lot == 0) {
+        l->first = last > end ? 0 : end + 1 - last;
+        return 0;
+    }
+    int bad = store_walk(store, 0, end, note_line, l);
+    l->first = last == 0 ? end + 1 : l->count > last ? l->sequences[l->count - last] : 0;
+    free(l->sequences);
+    return bad;
+}
+
+static void show_head(const struct line *last, int json)
+{
+    char words[HASH_DIGITS + 1];
+    if (!json) {
+        hash_words(&last->hash, words);
+        printf("sequence %" PRIu64 ", %s, hash %s\n", last->sequence, last->time, words);
+        return;
+    }
+    json_open("head");
+    json_number("sequence", last->sequence);
+    json_words("time", last->time);
+    json_hash("hash", &last->hash);
+    json_close();
+}
+
+static int list_lines(struct store *store, const struct request *request, uint64_t end)
+{
+    struct listing l = {.account = (uint32_t)request->numbers[OPTION_ACCOUNT],
+        .lot = (uint32_t)request->numbers[OPTION_LOT],
+        .json = option_given(request, OPTION_JSON)};
+    if (option_given(request, OPTION_LAST) && find_first(store, &l, end, request->numbers[OPTION_LAST]) != 0)
+        return -1;
+    return store_walk(store, l.first, end, show_line, &l) < 0 ? -1 : 0;
+}
+
+enum status command_log(const struct request *request)
+{
+    static struct newest newest;
+    struct store *store = open_read(request, &newest);
+    int bad = store == NULL;
+    if (!bad && option_given(request, OPTION_HEAD))
+        show_head(&newest.last, option_given(request, OPTION_JSON));
+    else if (!bad)
+        bad = list_lines(store, request, newest.last.sequence);
+    store_close(store);
+    return bad ? STATUS_NOTHING_DONE : STATUS_ACCEPTED;
+}

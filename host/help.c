@@ -1,0 +1,106 @@
+#include "help.h"
+
+#include <string.h>
+
+#include "store.h"
+#include "words.h"
+
+/* The text of one command. */
+struct help {
+    const char *command;
+    const char *text;
+};
+
+static const struct help helps[] = {
+    {"new", "crz new FILE\n"
+            "\n"
+            "Makes a fresh zone in a new file: no money, no receipts, day 1, morning. A file that exists stays as it "
+            "is.\n"},
+    {"call",
+        "crz call FILE KIND FIELD N ..  [--expect N] [--wait SECONDS] [--json]\n"
+        "\n"
+        "Makes one call and shows its answer, which is durable by then. A refused call is in the journal too.\n"
+        "  --expect N       only if N is the journal's last sequence number: a retry cannot act twice\n"
+        "  --wait SECONDS   how long to wait for another program, 10 if not given\n"
+        "  --json           the answer as an object\n"
+        "\n"
+        "Money is in fen, prices and basis in yuan per tonne, weights in kilograms; 1,234,567 is taken as 1234567.\n"
+        "The kinds, with their fields, who may make them and what they do:\n"},
+    {"play",
+        "crz play FILE SCRIPT  [--expect N] [--stop] [--wait SECONDS] [--json]\n"
+        "\n"
+        "Makes the calls of a script, one a line, each durable before its answer is shown. # begins a remark; the\n"
+        "script - is standard input. Every bad line is named first, and then no call is made.\n"
+        "  --expect N       the first call only if N is the journal's last sequence number\n"
+        "  --stop           end at the first refused call\n"
+        "  --wait SECONDS   how long to wait for another program, 10 if not given\n"
+        "  --json           an object for each call, and one for the script\n"},
+    {"show", "crz show FILE  [--json] [--wait SECONDS]\n"
+             "\n"
+             "The zone as it stands: day and phase, asks, accounts with money, and every registered receipt by its "
+             "state.\n"},
+    {"log", "crz log FILE  [--account N] [--lot N] [--last N] [--head] [--json] [--wait SECONDS]\n"
+            "\n"
+            "The journal in words, from its start.\n"
+            "  --account N      lines that name the account, in their call or their answer\n"
+            "  --lot N          lines that name the lot\n"
+            "  --last N         the last N of these lines\n"
+            "  --head           the last line's sequence number, time and hash, to be written down at the day close\n"},
+    {"verify",
+        "crz verify FILE  [--wait SECONDS]\n"
+        "\n"
+        "Checks the hash of every line, makes every call of the journal again and compares number, answer and the\n"
+        "final image; then holds the history of a zone that started fresh against the image. Names the first bad\n"
+        "line.\n"},
+    {"statement",
+        "crz statement FILE ACCOUNT  [--json] [--wait SECONDS]\n"
+        "\n"
+        "What was paid in, taken out, received and passed on, what is held for which lot, and how it adds up.\n"},
+    {"due", "crz due FILE  [--json] [--wait SECONDS]\n"
+            "\n"
+            "The lots that the next morning close works, with their full payment, who must lodge and what each side\n"
+            "has. In an afternoon that is tomorrow's close.\n"},
+    {"import", "crz import FILE IMAGE\n"
+               "\n"
+               "Makes a new zone that starts with a raw image of 5,696 bytes, as a host of its own keeps it.\n"},
+    {"export", "crz export FILE IMAGE  [--wait SECONDS]\n"
+               "\n"
+               "Writes the zone's image into a new file of 5,696 bytes.\n"},
+};
+
+enum { HELPS = sizeof helps / sizeof helps[0] };
+
+void print_usage(FILE *to)
+{
+    fputs("crz new FILE                 a fresh zone in a new file\n"
+          "crz call FILE KIND FIELD N   make a call\n"
+          "crz play FILE SCRIPT         make the calls of a script, one a line\n"
+          "crz show FILE                the zone as it stands\n"
+          "crz log FILE                 the journal in words\n"
+          "crz verify FILE              check the journal and the image\n"
+          "crz statement FILE ACCOUNT   what an account's money did\n"
+          "crz due FILE                 what the next morning close works\n"
+          "crz import FILE IMAGE        a new zone from a raw image\n"
+          "crz export FILE IMAGE        the raw image into a new file\n"
+          "crz help COMMAND             more on a command; 'crz help call' lists the kinds of call\n"
+          "\n"
+          "Ends with 0 accepted, 1 refused, 2 bad words, 3 nothing done (file, format, lock, disk),\n"
+          "4 made but the answer could not be shown.\n",
+        to);
+}
+
+void print_version(void)
+{
+    printf("crz %s, zone format %d, %s\n", CRZ_VERSION, STORE_FORMAT, store_engine());
+}
+
+void print_help(const char *command)
+{
+    if (command == NULL)
+        print_usage(stdout);
+    for (size_t i = 0; command != NULL && i < HELPS; i++)
+        if (strcmp(helps[i].command, command) == 0)
+            fputs(helps[i].text, stdout);
+    if (command != NULL && strcmp(command, "call") == 0)
+        print_kinds();
+}

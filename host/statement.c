@@ -1,0 +1,293 @@
+#include "statement.h"
+
+#include <inttypes.h>
+#include <stdio.h>
+
+#include "digits.h"
+#include "json.h"
+#include "print.h"
+
+/* Money of one account, summed up line by line. */
+struct statement {
+    uint32_t account;
+    int json;
+    uint64_t at_start; /* free and frozen money of an imported image */
+    uint64_t pay_ins, take_outs, received, passed;
+};
+
+/* One movement of the account's money. */
+struct movement {
+    const struct line *line;
+    const char *what;
+    uint32_t lot, other; /* 0 where the movement has none */
+    int in;
+    uint64_t fen;
+};
+
+static void print_movement(const struct movement *m)
+{
+    char what[96], fen[40];
+    if (m->lot == 0)
+        snprintf(what, sizeof what, "%s", m->what);
+    else
+        snprintf(what, sizeof what, "%s, lot %u, %s account %u", m->what, m->lot, m->in ? "from" : "to", m->other);
+    snprintf(fen, sizeof fen, "%c%s", m->in ? '+' : '-', grouped(m->fen).text);
+    printf("  %-8" PRIu64 " %s  %-40s %22s\n", m->line->sequence, m->line->time, what, fen);
+}
+
+static void json_movement(const struct movement *m)
+{
+    json_open("movement");
+    json_number("sequence", m->line->sequence);
+    json_words("time", m->line->time);
+    json_words("what", m->what);
+    json_if(m->lot != 0, "lot", m->lot);
+    json_if(m->other != 0, "other_account", m->other);
+    json_if(m->in, "in_fen", m->fen);
+    json_if(!m->in, "out_fen", m->fen);
+    json_close();
+}
+
+static void show_movement(const struct statement *s, const struct movement *m)
+{
+    if (s->json)
+        json_movement(m);
+    else
+        print_movement(m);
+}
+
+/* Outcomes that pass money from one account to another. */
+static int passes(uint32_t outcome)
+{
+    return outcome == CRZ_OUTCOME_FIRST_PAID || outcome == CRZ_OUTCOME_PART_PAID || outcome == CRZ_OUTCOME_BUYER_DEFAULT
+           || outcome == CRZ_OUTCOME_PENALTY;
+}
+
+static void add_transfer(struct statement *s, const struct line *line, const struct crz_entry_fields *e)
+{
+    int in = e->to == s->account;
+    struct movement m = {line, outcome_of(e->outcome)->word, e->lot, in ? e->from : e->to, in, e->number};
+    if (!passes(e->outcome) || (!in && e->from != s->account))
+        return;
+    *(in ? &s->received : &s->passed) += e->number;
+    show_movement(s, &m);
+}
+
+static void add_transfers(struct statement *s, const struct line *line)
+{
+    uint32_t count = crz_get_answer(line->answer).count;
+    for (uint32_t i = 0; i < count; i++) {
+        struct crz_entry_fields entry = crz_get_entry(line->answer, i);
+        if (outcome_of(entry.outcome) != NULL)
+            add_transfer(s, line, &entry);
+    }
+}
+
+static void add_payment(struct statement *s, const struct line *line, const struct crz_call_fields *call)
+{
+    int in = call->kind == CRZ_KIND_PAY_IN;
+    struct movement m = {line, kind_of(call->kind)->word, 0, 0, in, call->amount};
+    *(in ? &s->pay_ins : &s->take_outs) += call->amount;
+    show_movement(s, &m);
+}
+
+static int add_line(void *context, const struct line *line)
+{
+    struct statement *s = context;
+    struct crz_call_fields call = crz_get_call(line->call);
+    if (line->sequence == 0 && line->has_further && line->further_length == CRZ_IMAGE_LENGTH) {
+        struct crz_account_fields had = crz_get_account(line->further, s->account);
+        s->at_start = had.free + had.frozen;
+    }
+    if (line->sequence == 0 || line->number != CRZ_NUMBER_ACCEPTED)
+        return 0;
+    if ((call.kind == CRZ_KIND_PAY_IN || call.kind == CRZ_KIND_TAKE_OUT) && call.account == s->account)
+        add_payment(s, line, &call);
+    add_transfers(s, line);
+    return 0;
+}
+
+static void show_held(const struct statement *s, uint32_t lot, const struct crz_receipt_fields *r)
+{
+    if (!s->json) {
+        printf("  held for lot %u, %s: %s fen\n", lot, state_words[r->state], grouped(crz_held_money(r)).text);
+        return;
+    }
+    json_open("held");
+    json_number("lot", lot);
+    json_words("state", state_words[r->state]);
+    json_number("fen", crz_held_money(r));
+    json_close();
+}
+
+static void show_all_held(const struct statement *s, const uint8_t *image)
+{
+    for (uint32_t n = 1; n <= CRZ_RECEIPT_COUNT; n++) {
+        struct crz_receipt_fields r = crz_get_receipt(image, n);
+        if (r.buyer == s->account && crz_held_money(&r) != 0)
+            show_held(s, n, &r);
+    }
+}
+
+static void json_balance(const struct statement *s, const struct crz_account_fields *has)
+{
+    json_open("balance");
+    json_number("account", s->account);
+    json_number("start_fen", s->at_start);
+    json_number("pay_ins_fen", s->pay_ins);
+    json_number("received_fen", s->received);
+    json_number("take_outs_fen", s->take_outs);
+    json_number("passed_fen", s->passed);
+    json_number("free_fen", has->free);
+    json_number("frozen_fen", has->frozen);
+    json_close();
+}
+
+/* The line that adds up. */
+static void print_balance(const struct statement *s, const struct crz_account_fields *has)
+{
+    printf("  ");
+    if (s->at_start != 0)
+        printf("at the start %s + ", grouped(s->at_start).text);
+    printf("pay-ins %s + received %s - take-outs %s - passed on %s fen", grouped(s->pay_ins).text,
+        grouped(s->received).text, grouped(s->take_outs).text, grouped(s->passed).text);
+    printf("\n  = free %s + frozen %s = %s fen\n", grouped(has->free).text, grouped(has->frozen).text,
+        grouped(has->free + has->frozen).text);
+}
+
+static void print_head(const struct statement *s, const struct newest *newest)
+{
+    printf("account %u after sequence %" PRIu64 ", day %s, %s\n", s->account, newest->last.sequence,
+        grouped(crz_get_day(newest->kept.image)).text, phase_words(crz_get_phase(newest->kept.image)));
+    printf("  %-8s %-24s  %-40s %22s\n", "sequence", "time (UTC)", "what", "fen");
+}
+
+enum status print_statement(struct store *store, const struct newest *newest, uint32_t account, int json)
+{
+    struct statement s = {.account = account, .json = json};
+    struct crz_account_fields has = crz_get_account(newest->kept.image, account);
+    if (!json)
+        print_head(&s, newest);
+    if (store_walk(store, 0, newest->last.sequence, add_line, &s) != 0)
+        return STATUS_NOTHING_DONE;
+    show_all_held(&s, newest->kept.image);
+    if (json)
+        json_balance(&s, &has);
+    else
+        print_balance(&s, &has);
+    if (s.at_start + s.pay_ins + s.received == s.take_outs + s.passed + has.free + has.frozen)
+        return STATUS_ACCEPTED;
+    store_damaged(store_path(store), STORE_READ, "journal and image do not add up for this account");
+    return STATUS_NOTHING_DONE;
+}
+
+/* ── What is due ───────────────────────────────────────────────────────────────────────────────── */
+
+/* A lot that the close of the day works. */
+static int is_due(const struct crz_receipt_fields *r, uint32_t day)
+{
+    int waits = r->state == CRZ_STATE_STRUCK || r->state == CRZ_STATE_LODGED || r->state == CRZ_STATE_PENALTY_DUE;
+    return waits && r->due <= day;
+}
+
+static uint32_t count_due(const uint8_t *image, uint32_t day)
+{
+    uint32_t count = 0;
+    for (uint32_t n = 1; n <= CRZ_RECEIPT_COUNT; n++) {
+        struct crz_receipt_fields r = crz_get_receipt(image, n);
+        count += is_due(&r, day) ? 1 : 0;
+    }
+    return count;
+}
+
+static uint64_t lacking(uint64_t needed, uint64_t has)
+{
+    return needed > has ? needed - has : 0;
+}
+
+static void print_lacking(uint64_t fen)
+{
+    if (fen != 0)
+        printf(", lacks %s fen", grouped(fen).text);
+    putchar('\n');
+}
+
+static void print_due_lot(const uint8_t *image, uint32_t lot, const struct crz_receipt_fields *r)
+{
+    uint64_t full = crz_full_payment(r), seller = crz_get_account(image, r->seller).free;
+    uint64_t buyer = crz_get_account(image, r->buyer).free;
+    printf("  lot %u, due day %s: %s", lot, grouped(r->due).text, state_words[r->state]);
+    if (r->state == CRZ_STATE_PENALTY_DUE) {
+        printf(", seller %u owes %s fen to buyer %u\n", r->seller, grouped(CRZ_PENALTY).text, r->buyer);
+        printf("      seller %u has %s fen free", r->seller, grouped(seller).text);
+        print_lacking(lacking(CRZ_PENALTY, seller));
+        return;
+    }
+    printf(", full payment %s fen, seller %u %s\n", grouped(full).text, r->seller,
+        r->state == CRZ_STATE_STRUCK ? "must lodge" : "has lodged");
+    printf("      seller %u has %s fen free\n", r->seller, grouped(seller).text);
+    printf("      buyer %u has %s fen free and the deposit of %s fen", r->buyer, grouped(buyer).text,
+        grouped(CRZ_DEPOSIT).text);
+    print_lacking(lacking(full, buyer + CRZ_DEPOSIT));
+}
+
+static void json_due_lot(const uint8_t *image, uint32_t lot, const struct crz_receipt_fields *r)
+{
+    uint64_t seller = crz_get_account(image, r->seller).free, buyer = crz_get_account(image, r->buyer).free;
+    int penalty = r->state == CRZ_STATE_PENALTY_DUE;
+    json_open("due");
+    json_number("lot", lot);
+    json_words("state", state_words[r->state]);
+    json_number("due", r->due);
+    json_number("seller", r->seller);
+    json_number("buyer", r->buyer);
+    json_if(!penalty, "full_fen", crz_full_payment(r));
+    json_flag("must_lodge", r->state == CRZ_STATE_STRUCK);
+    json_if(penalty, "penalty_fen", CRZ_PENALTY);
+    json_number("seller_free_fen", seller);
+    json_number("buyer_free_fen", buyer);
+    json_number("deposit_fen", crz_held_money(r));
+    json_number(
+        "lacks_fen", penalty ? lacking(CRZ_PENALTY, seller) : lacking(crz_full_payment(r), buyer + CRZ_DEPOSIT));
+    json_close();
+}
+
+static void show_due_lots(const uint8_t *image, uint32_t day, int json)
+{
+    for (uint32_t n = 1; n <= CRZ_RECEIPT_COUNT; n++) {
+        struct crz_receipt_fields r = crz_get_receipt(image, n);
+        if (is_due(&r, day) && json)
+            json_due_lot(image, n, &r);
+        else if (is_due(&r, day))
+            print_due_lot(image, n, &r);
+    }
+}
+
+/* Day 0 where no close comes any more. */
+static void show_close(uint32_t day, int today, uint32_t lots, int json)
+{
+    if (json) {
+        json_open("close");
+        json_if(day != 0, "day", day);
+        json_flag("today", today);
+        json_number("lots", lots);
+        json_close();
+    } else if (day == 0) {
+        printf("no morning close comes: day %s is the last\n", grouped(CRZ_DAY_MOST).text);
+    } else {
+        printf("the next morning close, of day %s (%s), works %u lot%s\n", grouped(day).text,
+            today ? "today" : "tomorrow: today's is made", lots, plural(lots));
+    }
+}
+
+void print_due(const uint8_t image[CRZ_IMAGE_LENGTH], int json)
+{
+    int today = crz_get_phase(image) == CRZ_PHASE_MORNING;
+    uint32_t day = crz_get_day(image) + (today ? 0 : 1);
+    if (day > CRZ_DAY_MOST) {
+        show_close(0, 0, 0, json);
+        return;
+    }
+    show_close(day, today, count_due(image, day), json);
+    show_due_lots(image, day, json);
+}

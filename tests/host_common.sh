@@ -1,0 +1,48 @@
+# shellcheck shell=bash disable=SC2034
+# What the tests of the host program share: a folder of their own, and counted checks.
+set -u
+here=$(cd "$(dirname "$0")/.." && pwd)
+work=$(mktemp -d)
+trap 'rm -rf "$work"' EXIT
+chmod 755 "$work"
+cp "$1" "$work/crz" # other users may not reach the place where it was built
+crz=$work/crz
+cd "$work" || exit 2
+passed=0 failed=0
+
+# holds NAME COMMAND..: the command succeeds
+holds() {
+    local name=$1
+    shift
+    if "$@"; then
+        passed=$((passed + 1))
+    else
+        failed=$((failed + 1))
+        echo "failed: $name"
+    fi
+}
+
+# ends STATUS TEXT ARGUMENTS..: the program ends with the status and has said the text
+ends() {
+    local status=$1 text=$2 said
+    shift 2
+    said=$("$crz" "$@" 2>&1)
+    local was=$?
+    holds "$* ends with $was, not $status: $said" test "$was" -eq "$status"
+    holds "$*: '$text' not in: $said" grep -qF -- "$text" <<<"$said"
+}
+
+# the last sequence number of a zone
+sequence() {
+    "$crz" log "$1" --head | sed 's/sequence \([0-9]*\),.*/\1/'
+}
+
+# the total of a zone in fen
+total() {
+    "$crz" show "$1" | sed -n '1s/.*total \(.*\) fen/\1/p' | tr -d ,
+}
+
+finish() {
+    echo "$passed passed, $failed failed"
+    [ "$failed" -eq 0 ]
+}

@@ -1,0 +1,89 @@
+/*
+ * What the parts of the long run share: random numbers, the plan of a run, calls and images made at random, and the
+ * counts of what was reached.
+ */
+#ifndef LONGRUN_H
+#define LONGRUN_H
+
+#include "../include/crz_records.h"
+
+/* ── Random numbers ────────────────────────────────────────────────────────────────────────────── */
+
+/* C leaves the order of operands open: no expression draws twice without a fixed order, so a seed means one run under
+ * every compiler */
+void random_start(uint64_t seed);
+uint64_t random_word(void);
+uint64_t below(uint64_t n); /* 0 to n - 1 */
+uint64_t between(uint64_t low, uint64_t high);
+int percent(unsigned n);
+
+/* ── Plans ─────────────────────────────────────────────────────────────────────────────────────── */
+
+/* one run; closes are per thousand calls */
+struct plan {
+    uint64_t seed;
+    unsigned calls, receipts, accounts, closes;
+    uint16_t day;
+    int full_book, full_treasury;
+};
+
+extern struct plan plan;
+
+/* ── Calls (longrun_calls.c) ───────────────────────────────────────────────────────────────────── */
+
+enum { SPARE = 64 };
+
+struct request {
+    uint8_t call[CRZ_CALL_LENGTH + SPARE];
+    size_t image_len, call_len, answer_len;
+};
+
+/* a call with all buffers of their named lengths */
+void ask_for(struct request *q, enum crz_kind kind, uint64_t account, uint64_t receipt, uint64_t amount);
+
+/* a call that takes the lot one step on, or leaves it to the closes and moves its parties' money */
+void step_lot(struct request *q, const uint8_t *image, uint64_t number);
+void close_phase(struct request *q, const uint8_t *image);
+void sensible_call(struct request *q, const uint8_t *image);
+
+/* a sensible call with bytes, a field or a length out of place */
+void wild_call(struct request *q, const uint8_t *image);
+
+uint64_t some_account(void);
+
+/* a value from the edges of all ranges */
+uint64_t edge_value(void);
+
+/* ── Images (longrun_images.c) ─────────────────────────────────────────────────────────────────── */
+
+/* Each changes a valid image and returns the receipt that it concerns, 0 for none. */
+
+/* puts a field or a bit out of place */
+uint64_t damage_image(uint8_t *image);
+
+/* a bid that stands at the ask or beside it, or a lot that is overdue: valid, though no run of calls leads there */
+uint64_t stray_image(uint8_t *image);
+
+/* gives an account so much that the total lies at its limit or one fen beside it */
+uint64_t fill_to_limit(uint8_t *image);
+
+/* ── Counts (longrun_counts.c) ─────────────────────────────────────────────────────────────────── */
+
+/* a call, what it returned, and images and answer around it */
+struct made {
+    const struct request *request;
+    uint32_t number;
+    const uint8_t *before, *after, *answer;
+};
+
+void count_call(const struct made *made);
+
+/* what was said of the three kinds of images */
+void count_damaged(const struct made *made);
+void count_stray(const struct made *made);
+void count_filled(const struct made *made);
+
+/* prints the counts; adds up what was reached, and what was not although it can be */
+void show_counts(unsigned long *reached, unsigned long *unreached);
+
+#endif

@@ -1,0 +1,220 @@
+/*
+ * What the long run has reached. Everything that can occur must occur: a pair of kind and number that never came, an
+ * outcome, a contract that nothing was struck at, an amount or a total at its limit.
+ */
+#include "longrun.h"
+
+#include <stdio.h>
+
+enum { NUMBERS = 14, OUTCOMES = 16, KINDS = 16, VERDICTS = 2, LIMITS = 3, AMOUNTS = 4, FULLS = 2 };
+
+/*
+ * The numbers 0 to 13 that a kind can return ('+'). Numbers 1 and 2 are of buffers and images, 3 is of the record's
+ * form, so no kind is without them, and what is no kind ends there. 4 needs a field with a range, which closes do not
+ * have; 5 is of closes alone. 6 and 7 are of lots and their parties; a receipt that is registered has no party yet. 8
+ * is of a limit bid, 9 of a market bid, 10 and 11 are of both, 11 also of a take-out. 12 is of a pay-in, the one kind
+ * that raises the total, and 13 of an invoice.
+ */
+static const struct {
+    const char *name, *numbers;
+} kinds[KINDS] = {
+    {"no kind", "-+++----------"},
+    {"pay in", "+++++-------+-"},
+    {"take out", "+++++------+--"},
+    {"register", "+++++-+-------"},
+    {"list", "+++++-++------"},
+    {"withdraw listing", "+++++-++------"},
+    {"limit bid", "+++++-+++-++--"},
+    {"market bid", "+++++-++-+++--"},
+    {"withdraw bid", "+++++-++------"},
+    {"quote", "+++++---------"},
+    {"lodge", "+++++-++------"},
+    {"morning close", "++++-+--------"},
+    {"first payment", "+++++-++------"},
+    {"invoice", "+++++-++-----+"},
+    {"confirm", "+++++-++------"},
+    {"day close", "++++-+--------"},
+};
+
+/* kinds that strike, and kinds with an amount */
+enum { STRIKERS = 3, PAYERS = 3 };
+static const uint8_t strikers[STRIKERS] = {CRZ_KIND_LIMIT_BID, CRZ_KIND_MARKET_BID, CRZ_KIND_QUOTE};
+static const uint8_t payers[PAYERS] = {CRZ_KIND_PAY_IN, CRZ_KIND_TAKE_OUT, CRZ_KIND_INVOICE};
+static const uint64_t amounts[AMOUNTS] = {0, CRZ_AMOUNT_MOST - 1, CRZ_AMOUNT_MOST, CRZ_AMOUNT_MOST + 1};
+
+/* the least and the most that a lot can cost: 1 x 1,000 and 250,000 x 60,000 tenths of a fen */
+static const uint32_t fulls[FULLS] = {100, 1500000000};
+
+static unsigned long returned[KINDS][NUMBERS], outcomes[OUTCOMES], most_entries;
+static unsigned long settled[FULLS], struck[STRIKERS][CRZ_CONTRACT_COUNT + 1], at_amount[PAYERS][AMOUNTS];
+static unsigned long at_total[LIMITS], filled[VERDICTS][LIMITS];
+static unsigned long damaged[VERDICTS], stray[VERDICTS];
+
+/* ── Counting ──────────────────────────────────────────────────────────────────────────────────── */
+
+/* the place of a kind in a list, or the list's length */
+static size_t place_of(uint8_t kind, const uint8_t *list, size_t length)
+{
+    size_t i = 0;
+    while (i < length && list[i] != kind)
+        i++;
+    return i;
+}
+
+/* a record of another length is of no kind */
+static uint8_t kind_of(const struct request *q)
+{
+    uint8_t kind = q->call_len == CRZ_CALL_LENGTH ? q->call[CRZ_CALL_KIND] : 0;
+    return kind < KINDS ? kind : 0;
+}
+
+static void count_entry(const struct made *made, uint8_t kind, const struct crz_entry_fields *entry)
+{
+    size_t striker = place_of(kind, strikers, STRIKERS);
+    uint32_t contract = crz_get_receipt(made->after, entry->lot).contract;
+    if (entry->outcome < OUTCOMES)
+        outcomes[entry->outcome]++;
+    if (entry->outcome == CRZ_OUTCOME_STRUCK && striker < STRIKERS && contract <= CRZ_CONTRACT_COUNT)
+        struck[striker][contract]++;
+    if (entry->outcome == CRZ_OUTCOME_SETTLED) {
+        settled[0] += entry->number == fulls[0];
+        settled[1] += entry->number == fulls[1];
+    }
+}
+
+static void count_entries(const struct made *made, uint8_t kind)
+{
+    uint32_t i, entries = crz_get_answer(made->answer).count;
+    if (entries > most_entries)
+        most_entries = entries;
+    for (i = 0; i < entries && i < CRZ_ENTRY_COUNT; i++) {
+        struct crz_entry_fields entry = crz_get_entry(made->answer, i);
+        count_entry(made, kind, &entry);
+    }
+}
+
+static void count_amount(uint8_t kind, uint64_t amount)
+{
+    size_t payer = place_of(kind, payers, PAYERS), i;
+    for (i = 0; i < AMOUNTS && payer < PAYERS; i++)
+        at_amount[payer][i] += amount == amounts[i];
+}
+
+/* one fen below the limit of the total, at it, one above */
+static void count_limit(unsigned long *counts, uint64_t total)
+{
+    if (total - (CRZ_TOTAL_MOST - 1) < LIMITS)
+        counts[total - (CRZ_TOTAL_MOST - 1)]++;
+}
+
+void count_call(const struct made *made)
+{
+    uint8_t kind = kind_of(made->request);
+    uint64_t amount = crz_get_u64(made->request->call + CRZ_CALL_AMOUNT);
+    if (made->number >= NUMBERS)
+        return;
+    returned[kind][made->number]++;
+    if (made->number == CRZ_NUMBER_ACCEPTED)
+        count_entries(made, kind);
+    /* numbers 1 to 3 are returned whatever the amount is */
+    if (made->number == CRZ_NUMBER_ACCEPTED || made->number > CRZ_NUMBER_BAD_CALL)
+        count_amount(kind, amount);
+    if (kind == CRZ_KIND_PAY_IN && (made->number == CRZ_NUMBER_ACCEPTED || made->number == CRZ_NUMBER_OVER_LIMIT))
+        count_limit(at_total, crz_get_total(made->before) + amount);
+}
+
+void count_damaged(const struct made *made)
+{
+    damaged[made->number == CRZ_NUMBER_BAD_IMAGE]++;
+}
+
+void count_stray(const struct made *made)
+{
+    stray[made->number == CRZ_NUMBER_BAD_IMAGE]++;
+}
+
+void count_filled(const struct made *made)
+{
+    count_limit(filled[made->number == CRZ_NUMBER_BAD_IMAGE], crz_get_total(made->before));
+}
+
+/* ── Tables ────────────────────────────────────────────────────────────────────────────────────── */
+
+static unsigned long met, unmet;
+
+/* a cell of a table; what cannot occur and does is a failure like what can and does not */
+static void show_cell(unsigned long count, int can_occur)
+{
+    if (can_occur == (count != 0))
+        met += can_occur != 0;
+    else
+        unmet++;
+    if (can_occur || count != 0)
+        printf(" %6lu", count);
+    else
+        printf("      .");
+}
+
+/* a count for each mark, '+' for what can occur */
+static void show_row(const char *name, const unsigned long *counts, const char *marks)
+{
+    size_t i;
+    printf("  %-20s", name);
+    for (i = 0; marks[i] != '\0'; i++)
+        show_cell(counts[i], marks[i] == '+');
+    printf("\n");
+}
+
+static void show_heads(const char *name, unsigned first, unsigned end)
+{
+    unsigned i;
+    printf("%-22s", name);
+    for (i = first; i < end; i++)
+        printf(" %6u", i);
+    printf("\n");
+}
+
+static void show_kinds(void)
+{
+    unsigned kind;
+    show_heads("number returned", 0, NUMBERS);
+    for (kind = 0; kind < KINDS; kind++)
+        show_row(kinds[kind].name, returned[kind], kinds[kind].numbers);
+}
+
+static void show_strikes(void)
+{
+    unsigned i;
+    show_heads("contract of a strike", 1, CRZ_CONTRACT_COUNT + 1);
+    for (i = 0; i < STRIKERS; i++)
+        show_row(kinds[strikers[i]].name, struck[i] + 1, "++++++++");
+}
+
+static void show_amounts(void)
+{
+    unsigned i;
+    printf("%-22s %6s %6s %6s %6s\n", "amount, most 10^12", "0", "most-1", "most", "most+1");
+    for (i = 0; i < PAYERS; i++)
+        show_row(kinds[payers[i]].name, at_amount[i], "++++");
+    printf("%-22s %6s %6s %6s\n", "total, most 10^15", "most-1", "most", "most+1");
+    show_row("that a pay-in makes", at_total, "+++");
+    show_row("of a valid image", filled[0], "++-");
+    show_row("of an invalid image", filled[1], "--+");
+    printf("%-22s %6s %6s\n", "full payment", "least", "most");
+    show_row("settled", settled, "++");
+}
+
+void show_counts(unsigned long *reached, unsigned long *unreached)
+{
+    show_kinds();
+    show_heads("outcome", 1, OUTCOMES);
+    show_row("entries", outcomes + 1, "+++++++++++++++");
+    show_strikes();
+    show_amounts();
+    printf("%-22s %6s %6s\n", "made-up images", "valid", "not");
+    show_row("a field out of place", damaged, "++");
+    show_row("valid, not reached", stray, "+-");
+    printf("%lu entries in the longest answer\n", most_entries);
+    *reached = met;
+    *unreached = unmet;
+}

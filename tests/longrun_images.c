@@ -1,0 +1,189 @@
+/* Made-up images, from those that a run has reached. */
+#include "longrun.h"
+
+/* a field of the image, or of each record of a table */
+struct field {
+    unsigned offset, size, stride, records;
+};
+
+static const struct field header_fields[] = {{CRZ_IMAGE_ACCOUNT_COUNT, 2, 0, 1}, {CRZ_IMAGE_RECEIPT_COUNT, 2, 0, 1},
+    {CRZ_IMAGE_CONTRACT_COUNT, 2, 0, 1}, {CRZ_IMAGE_DAY, 2, 0, 1}, {CRZ_IMAGE_ACCOUNT_OFFSET, 4, 0, 1},
+    {CRZ_IMAGE_CONTRACT_OFFSET, 4, 0, 1}, {CRZ_IMAGE_RECEIPT_OFFSET, 4, 0, 1}, {CRZ_IMAGE_PHASE, 1, 0, 1},
+    {CRZ_IMAGE_ZEROS, 1, 0, 1}, {CRZ_IMAGE_ZEROS + 1, 1, 0, 1}, {CRZ_IMAGE_ZEROS + 2, 1, 0, 1},
+    {CRZ_IMAGE_TOTAL, 8, 0, 1}, {CRZ_IMAGE_ASKS, 4, CRZ_ASK_LENGTH, CRZ_CONTRACT_COUNT}};
+
+static const struct field account_fields[] = {
+    {CRZ_IMAGE_ACCOUNTS + CRZ_ACCOUNT_FREE, 8, CRZ_ACCOUNT_LENGTH, CRZ_ACCOUNT_COUNT},
+    {CRZ_IMAGE_ACCOUNTS + CRZ_ACCOUNT_FROZEN, 8, CRZ_ACCOUNT_LENGTH, CRZ_ACCOUNT_COUNT}};
+
+static const struct field receipt_fields[] = {{CRZ_RECEIPT_OWNER, 1, 0, 1}, {CRZ_RECEIPT_STATE, 1, 0, 1},
+    {CRZ_RECEIPT_SELLER, 1, 0, 1}, {CRZ_RECEIPT_BUYER, 1, 0, 1}, {CRZ_RECEIPT_CONTRACT, 1, 0, 1},
+    {CRZ_RECEIPT_DAYS, 1, 0, 1}, {CRZ_RECEIPT_DUE, 2, 0, 1}, {CRZ_RECEIPT_WEIGHT, 4, 0, 1},
+    {CRZ_RECEIPT_BASIS, 4, 0, 1}, {CRZ_RECEIPT_PRICE, 4, 0, 1}, {CRZ_RECEIPT_PENDING, 4, 0, 1},
+    {CRZ_RECEIPT_CONFIRMED, 4, 0, 1}, {CRZ_RECEIPT_PAID, 4, 0, 1}};
+
+static uint8_t *account_in(uint8_t *image, uint64_t number)
+{
+    return image + crz_account_offset((uint32_t)number);
+}
+
+static void add_to(uint8_t *sum, uint64_t added)
+{
+    crz_put_u64(sum, crz_get_u64(sum) + added);
+}
+
+/* puts another value into the field; returns what was added, modulo 2^64 */
+static uint64_t displace(uint8_t *at, unsigned size, uint64_t other)
+{
+    uint64_t old = crz_get_bytes(at, size), now;
+    switch (below(6)) {
+    case 0: now = old + 1; break;
+    case 1: now = old - 1; break;
+    case 2: now = percent(50) ? old + 5 * between(1, 3) : old - 5; break;
+    case 3: now = edge_value(); break;
+    default: now = other;
+    }
+    crz_put_bytes(at, size, now);
+    if (crz_get_bytes(at, size) == old)
+        crz_put_bytes(at, size, old + 1);
+    return crz_get_bytes(at, size) - old;
+}
+
+/* ── Receipts ──────────────────────────────────────────────────────────────────────────────────── */
+
+static void freeze_held(uint8_t *image)
+{
+    unsigned n;
+    for (n = 1; n <= CRZ_RECEIPT_COUNT; n++) {
+        struct crz_receipt_fields receipt = crz_get_receipt(image, n);
+        if (receipt.buyer >= 1 && receipt.buyer <= CRZ_ACCOUNT_COUNT)
+            add_to(account_in(image, receipt.buyer) + CRZ_ACCOUNT_FROZEN, crz_held_money(&receipt));
+    }
+}
+
+static void add_up(uint8_t *image)
+{
+    uint64_t total = 0;
+    unsigned n;
+    for (n = 1; n <= CRZ_ACCOUNT_COUNT; n++)
+        total += crz_get_account(image, n).free + crz_get_account(image, n).frozen;
+    crz_put_u64(image + CRZ_IMAGE_TOTAL, total);
+}
+
+/* makes the sums fit a damaged receipt again, so that its own fields alone decide */
+static void rebook(uint8_t *image)
+{
+    unsigned n;
+    for (n = 1; n <= CRZ_ACCOUNT_COUNT; n++)
+        crz_put_u64(account_in(image, n) + CRZ_ACCOUNT_FROZEN, 0);
+    freeze_held(image);
+    add_up(image);
+}
+
+/* a value at the field's own limit, or just beyond */
+static uint64_t limit_of(const struct crz_receipt_fields *receipt, unsigned offset)
+{
+    uint64_t full = crz_full_payment(receipt), confirmed = receipt->confirmed, beyond = below(2);
+    switch (offset) {
+    case CRZ_RECEIPT_DUE: return CRZ_DUE_MOST + beyond;
+    case CRZ_RECEIPT_BASIS: return beyond - receipt->price;
+    case CRZ_RECEIPT_PENDING: return full - confirmed + beyond;
+    case CRZ_RECEIPT_CONFIRMED: return full - receipt->pending - 1 + beyond;
+    case CRZ_RECEIPT_PAID: return beyond + (full ? crz_rest_payment(receipt) * confirmed / full : 0);
+    default: return percent(50) ? receipt->seller : receipt->buyer;
+    }
+}
+
+static void damage_receipt(uint8_t *image, uint64_t number)
+{
+    struct crz_receipt_fields receipt = crz_get_receipt(image, (uint32_t)number);
+    const struct field *f = &receipt_fields[below(sizeof receipt_fields / sizeof receipt_fields[0])];
+    uint64_t value = percent(80) ? limit_of(&receipt, f->offset) : random_word();
+    displace(image + crz_receipt_offset((uint32_t)number) + f->offset, f->size, value);
+    if (percent(60))
+        rebook(image);
+}
+
+/* ── Sums and header ───────────────────────────────────────────────────────────────────────────── */
+
+/* a free or frozen sum; often the total or another account takes the difference, which a sum modulo 2^64 would not see
+ */
+static void damage_account(uint8_t *image)
+{
+    const struct field *f = &account_fields[below(2)];
+    size_t offset = f->offset + (size_t)below(plan.accounts) * f->stride;
+    uint64_t added = displace(image + offset, f->size, random_word());
+    uint8_t *other = account_in(image, some_account()) + CRZ_ACCOUNT_FREE;
+    if (percent(40))
+        add_to(image + CRZ_IMAGE_TOTAL, added);
+    else if (percent(50))
+        add_to(other, 0 - added);
+}
+
+static void damage_header(uint8_t *image)
+{
+    const struct field *f = &header_fields[below(sizeof header_fields / sizeof header_fields[0])];
+    size_t offset = f->offset + (size_t)below(f->records) * f->stride;
+    uint64_t other = percent(50) ? random_word() : 5 * between(1, CRZ_PRICE_MOST / 5);
+    displace(image + offset, f->size, other);
+}
+
+/* any bit, those of receipts that nobody has registered too */
+static void flip_bit(uint8_t *image)
+{
+    size_t place = (size_t)below(CRZ_IMAGE_LENGTH);
+    image[place] = (uint8_t)(image[place] ^ 1u << below(8));
+}
+
+uint64_t damage_image(uint8_t *image)
+{
+    uint64_t draw = below(100), number = between(1, plan.receipts);
+    if (draw < 60) {
+        damage_receipt(image, number);
+        return number;
+    }
+    if (draw < 75)
+        damage_account(image);
+    else if (draw < 90)
+        damage_header(image);
+    else
+        flip_bit(image);
+    return 0;
+}
+
+/* ── Valid images that no run reaches ──────────────────────────────────────────────────────────── */
+
+/* a price beside the other, at most one step away, within the range */
+static uint32_t price_near(uint32_t price)
+{
+    uint64_t near = price - CRZ_PRICE_STEP + CRZ_PRICE_STEP * below(3);
+    return near >= CRZ_PRICE_LEAST && near <= CRZ_PRICE_MOST ? (uint32_t)near : price;
+}
+
+uint64_t stray_image(uint8_t *image)
+{
+    uint64_t number = between(1, plan.receipts);
+    struct crz_receipt_fields receipt = crz_get_receipt(image, (uint32_t)number);
+    uint16_t due = (uint16_t)between(CRZ_DUE_LEAST, crz_get_day(image));
+    switch (receipt.state) {
+    case CRZ_STATE_BID_STANDS:
+        crz_put_u32(image + crz_ask_offset(receipt.contract), price_near(receipt.price));
+        return number;
+    case CRZ_STATE_STRUCK:
+    case CRZ_STATE_LODGED:
+    case CRZ_STATE_PENALTY_DUE:
+        crz_put_u16(image + crz_receipt_offset((uint32_t)number) + CRZ_RECEIPT_DUE, due);
+        return number;
+    default: return 0;
+    }
+}
+
+uint64_t fill_to_limit(uint8_t *image)
+{
+    uint64_t total = crz_get_total(image), wanted = CRZ_TOTAL_MOST - 1 + below(3);
+    if (wanted < total)
+        wanted = total;
+    add_to(account_in(image, some_account()) + CRZ_ACCOUNT_FREE, wanted - total);
+    crz_put_u64(image + CRZ_IMAGE_TOTAL, wanted);
+    return 0;
+}

@@ -1,0 +1,277 @@
+/*
+ * crz_records.h and the constants of crz.h against the library: each call record by its bytes, every range at its ends
+ * and one beyond them, payments, and what is read back from answers and images. C and C++.
+ * The last line is 'N passed, M failed'.
+ */
+#include "../include/crz_records.h"
+
+#include <stdio.h>
+
+static unsigned long passed, failed;
+static uint8_t image[CRZ_IMAGE_LENGTH], call[CRZ_CALL_LENGTH], answer[CRZ_ANSWER_LENGTH];
+
+static void expect(int ok, const char *what)
+{
+    if (ok) {
+        passed++;
+    } else {
+        failed++;
+        printf("failed: %s\n", what);
+    }
+}
+
+static uint32_t make(void)
+{
+    return crz_call(image, sizeof image, call, sizeof call, answer, sizeof answer);
+}
+
+/* the number that the call in `call` is given, the image as it was */
+static uint32_t tried(void)
+{
+    static uint8_t copy[CRZ_IMAGE_LENGTH];
+    uint32_t number;
+    memcpy(copy, image, sizeof copy);
+    number = make();
+    memcpy(image, copy, sizeof copy);
+    return number;
+}
+
+static void expect_bytes(const char *hex, const char *what)
+{
+    char got[2 * CRZ_CALL_LENGTH + 1];
+    size_t i;
+    for (i = 0; i < CRZ_CALL_LENGTH; i++)
+        snprintf(got + 2 * i, 3, "%02x", call[i]);
+    expect(strcmp(got, hex) == 0, what);
+}
+
+static void records(void)
+{
+    crz_put_pay_in(call, 1, UINT64_C(0x8807060504030201));
+    expect_bytes("010100000000000001020304050607880000000000000000", "pay in");
+    crz_put_take_out(call, 96, 2);
+    expect_bytes("026000000000000002000000000000000000000000000000", "take out");
+    crz_put_register(call, 3, 128, 60000);
+    expect_bytes("03038000000000000000000000000000"
+                 "0000000060ea0000",
+        "register");
+    crz_put_list(call, 3, 4, 8, 3, -50000);
+    expect_bytes("0403040803000000"
+                 "0000000000000000"
+                 "b03cffff00000000",
+        "list");
+    crz_put_withdraw_listing(call, 3, 4);
+    expect_bytes("050304000000000000000000000000000000000000000000", "withdraw listing");
+    crz_put_limit_bid(call, 7, 4, 15000);
+    expect_bytes("0607040000000000983a0000000000000000000000000000", "limit bid");
+    crz_put_market_bid(call, 7, 4);
+    expect_bytes("070704000000000000000000000000000000000000000000", "market bid");
+    crz_put_withdraw_bid(call, 7, 4);
+    expect_bytes("080704000000000000000000000000000000000000000000", "withdraw bid");
+    crz_put_quote(call, 8, 5);
+    expect_bytes("090000080000000005000000000000000000000000000000", "quote");
+    crz_put_lodge(call, 3, 4);
+    expect_bytes("0a0304000000000000000000000000000000000000000000", "lodge");
+    crz_put_morning_close(call);
+    expect_bytes("0b0000000000000000000000000000000000000000000000", "morning close");
+    crz_put_first_payment(call, 3, 4);
+    expect_bytes("0c0304000000000000000000000000000000000000000000", "first payment");
+    crz_put_invoice(call, 3, 4, 33);
+    expect_bytes("0d0304000000000021000000000000000000000000000000", "invoice");
+    crz_put_confirm(call, 7, 4);
+    expect_bytes("0e0704000000000000000000000000000000000000000000", "confirm");
+    crz_put_day_close(call);
+    expect_bytes("0f0000000000000000000000000000000000000000000000", "day close");
+}
+
+static void fields(void)
+{
+    struct crz_call_fields in = {4, 3, 4, 8, 3, 9, -50000, 60000}, out;
+    crz_put_call(call, &in);
+    out = crz_get_call(call);
+    expect(out.kind == 4 && out.account == 3 && out.receipt == 4 && out.contract == 8 && out.days == 3, "call fields");
+    expect(out.amount == 9 && out.basis == -50000 && out.weight == 60000, "call fields of more bytes");
+    in.account = 300;
+    in.receipt = 256;
+    crz_put_call(call, &in);
+    out = crz_get_call(call);
+    expect(out.account == 255 && out.receipt == 255, "a number that does not fit is none of the zone's");
+    crz_put_pay_in(call, 1 + 256, 5);
+    crz_fresh(image, sizeof image);
+    expect(tried() == CRZ_NUMBER_OUT_OF_RANGE, "an account past a byte is refused");
+    expect(crz_get_account(image, 0).free == 0 && crz_get_account(image, 97).free == 0, "accounts that are none");
+    expect(crz_get_receipt(image, 0).owner == 0 && crz_get_receipt(image, 129).owner == 0, "receipts that are none");
+    expect(crz_get_ask(image, 0) == 0 && crz_get_ask(image, 9) == 0, "contracts that are none");
+    memset(answer, 7, sizeof answer);
+    expect(crz_get_entry(answer, 127).lot == 7 && crz_get_entry(answer, 128).lot == 0, "entries that are none");
+}
+
+/* whether the library takes the ends of a range and refuses what lies beyond them */
+static void range(void (*put)(int64_t value), int64_t least, int64_t most, int64_t step, const char *what)
+{
+    put(least);
+    expect(tried() != CRZ_NUMBER_OUT_OF_RANGE, what);
+    put(most);
+    expect(tried() != CRZ_NUMBER_OUT_OF_RANGE, what);
+    put(least - 1);
+    expect(tried() == CRZ_NUMBER_OUT_OF_RANGE, what);
+    put(most + 1);
+    expect(tried() == CRZ_NUMBER_OUT_OF_RANGE, what);
+    put(most + step);
+    expect(tried() == CRZ_NUMBER_OUT_OF_RANGE, what);
+    put(least + step);
+    expect(tried() != CRZ_NUMBER_OUT_OF_RANGE, what);
+    put(least + step - 1);
+    expect((tried() == CRZ_NUMBER_OUT_OF_RANGE) == (step > 1), what);
+}
+
+static void put_price(int64_t value)
+{
+    crz_put_limit_bid(call, 2, 1, (uint64_t)value);
+}
+
+static void put_basis(int64_t value)
+{
+    crz_put_list(call, 1, 1, 1, 0, (int32_t)value);
+}
+
+static void put_weight(int64_t value)
+{
+    crz_put_register(call, 1, 1, (uint32_t)value);
+}
+
+static void put_amount(int64_t value)
+{
+    crz_put_pay_in(call, 1, (uint64_t)value);
+}
+
+static void put_account(int64_t value)
+{
+    crz_put_pay_in(call, (uint32_t)value, 1);
+}
+
+static void put_receipt(int64_t value)
+{
+    crz_put_lodge(call, 1, (uint32_t)value);
+}
+
+static void put_contract(int64_t value)
+{
+    crz_put_quote(call, (uint32_t)value, 5);
+}
+
+static void put_days(int64_t value)
+{
+    crz_put_list(call, 1, 1, 1, (uint32_t)value, 0);
+}
+
+static void ranges(void)
+{
+    crz_fresh(image, sizeof image);
+    range(put_price, CRZ_PRICE_LEAST, CRZ_PRICE_MOST, CRZ_PRICE_STEP, "price");
+    range(put_basis, CRZ_BASIS_LEAST, CRZ_BASIS_MOST, 1, "basis");
+    range(put_weight, CRZ_WEIGHT_LEAST, CRZ_WEIGHT_MOST, 1, "weight");
+    range(put_amount, CRZ_AMOUNT_LEAST, (int64_t)CRZ_AMOUNT_MOST, 1, "amount");
+    range(put_account, 1, CRZ_ACCOUNT_COUNT, 1, "account");
+    range(put_receipt, 1, CRZ_RECEIPT_COUNT, 1, "receipt");
+    range(put_contract, 1, CRZ_CONTRACT_COUNT, 1, "contract");
+    put_days(CRZ_DAYS_MOST);
+    expect(tried() != CRZ_NUMBER_OUT_OF_RANGE, "days");
+    put_days(CRZ_DAYS_MOST + 1);
+    expect(tried() == CRZ_NUMBER_OUT_OF_RANGE, "days");
+}
+
+/* the image is judged: a call of no bytes is refused as a call only where it is valid */
+static int valid(void)
+{
+    return crz_call(image, sizeof image, NULL, 0, answer, sizeof answer) == CRZ_NUMBER_BAD_CALL;
+}
+
+static void days_and_total(void)
+{
+    crz_fresh(image, sizeof image);
+    expect(crz_get_day(image) == CRZ_DAY_LEAST && crz_get_phase(image) == CRZ_PHASE_MORNING, "the first day");
+    crz_put_u16(image + CRZ_IMAGE_DAY, CRZ_DAY_MOST);
+    expect(valid(), "the last day");
+    crz_put_u16(image + CRZ_IMAGE_DAY, CRZ_DAY_MOST + 1);
+    expect(!valid(), "a day past the last");
+    crz_fresh(image, sizeof image);
+    crz_put_u64(image + crz_account_offset(96) + CRZ_ACCOUNT_FREE, CRZ_TOTAL_MOST);
+    crz_put_u64(image + CRZ_IMAGE_TOTAL, CRZ_TOTAL_MOST);
+    expect(valid() && crz_get_total(image) == CRZ_TOTAL_MOST, "the largest total");
+    crz_put_pay_in(call, 1, 1);
+    expect(tried() == CRZ_NUMBER_OVER_LIMIT, "a fen past the largest total");
+    crz_put_u64(image + crz_account_offset(96) + CRZ_ACCOUNT_FREE, CRZ_TOTAL_MOST + 1);
+    crz_put_u64(image + CRZ_IMAGE_TOTAL, CRZ_TOTAL_MOST + 1);
+    expect(!valid(), "a total past the largest");
+}
+
+/* full, first and rest for a price, basis and weight */
+static void payments(uint32_t price, int32_t basis, uint32_t weight, uint64_t full, uint64_t first)
+{
+    struct crz_receipt_fields r;
+    memset(&r, 0, sizeof r);
+    r.price = price;
+    r.basis = basis;
+    r.weight = weight;
+    expect(crz_full_payment(&r) == full && crz_first_payment(&r) == first && crz_rest_payment(&r) == full - first,
+        "payments");
+}
+
+static int held_is_frozen(uint32_t receipt, uint32_t account)
+{
+    struct crz_receipt_fields r = crz_get_receipt(image, receipt);
+    return r.buyer == account && crz_held_money(&r) == crz_get_account(image, account).frozen;
+}
+
+/* a lot from its registration to its first payment */
+static void life(void)
+{
+    struct crz_entry_fields entry;
+    crz_fresh(image, sizeof image);
+    crz_put_register(call, 1, 9, 41237);
+    expect(make() == CRZ_NUMBER_ACCEPTED && crz_get_receipt(image, 9).weight == 41237, "registered");
+    crz_put_list(call, 1, 9, 2, 0, 300);
+    expect(make() == CRZ_NUMBER_ACCEPTED && crz_get_receipt(image, 9).basis == 300, "listed");
+    crz_put_pay_in(call, 2, CRZ_DEPOSIT - 1);
+    expect(make() == CRZ_NUMBER_ACCEPTED && crz_get_answer(answer).total == CRZ_DEPOSIT - 1, "paid in");
+    crz_put_limit_bid(call, 2, 9, 15000);
+    expect(make() == CRZ_NUMBER_NO_MONEY && crz_get_answer(answer).number == CRZ_NUMBER_NO_MONEY, "a fen too little");
+    crz_put_pay_in(call, 2, 63092610 - CRZ_DEPOSIT + 1);
+    expect(make() == CRZ_NUMBER_ACCEPTED, "paid in");
+    crz_put_limit_bid(call, 2, 9, 15000);
+    expect(make() == CRZ_NUMBER_ACCEPTED && held_is_frozen(9, 2), "bid");
+    crz_put_quote(call, 2, 15000);
+    expect(make() == CRZ_NUMBER_ACCEPTED && crz_get_ask(image, 2) == 15000 && held_is_frozen(9, 2), "struck");
+    entry = crz_get_entry(answer, 0);
+    expect(entry.lot == 9 && entry.outcome == CRZ_OUTCOME_STRUCK && entry.from == 2 && entry.to == 1, "the strike");
+    expect(entry.number == 15000 && crz_get_answer(answer).count == 1, "its price");
+    crz_put_lodge(call, 1, 9);
+    expect(make() == CRZ_NUMBER_ACCEPTED && held_is_frozen(9, 2), "lodged");
+    crz_put_morning_close(call);
+    expect(make() == CRZ_NUMBER_ACCEPTED && held_is_frozen(9, 2), "settled");
+    expect(crz_get_answer(answer).phase == CRZ_PHASE_AFTERNOON && crz_get_receipt(image, 9).owner == 2, "the buyer's");
+    crz_put_first_payment(call, 1, 9);
+    expect(make() == CRZ_NUMBER_ACCEPTED && held_is_frozen(9, 2), "first paid");
+}
+
+int main(void)
+{
+    char version[32];
+    snprintf(version, sizeof version, "%d.%d.%d", CRZ_VERSION_MAJOR, CRZ_VERSION_MINOR, CRZ_VERSION_PATCH);
+    expect(strcmp(version, CRZ_VERSION) == 0, "the version");
+    expect(CRZ_IMAGE_RECEIPTS + CRZ_RECEIPT_COUNT * CRZ_RECEIPT_LENGTH == CRZ_IMAGE_LENGTH, "the image's length");
+    expect(CRZ_ANSWER_ENTRIES + CRZ_ENTRY_COUNT * CRZ_ENTRY_LENGTH == CRZ_ANSWER_LENGTH, "the answer's length");
+    records();
+    fields();
+    ranges();
+    days_and_total();
+    payments(15000, 300, 41237, 63092610, 50474088);
+    payments(15005, 300, 41237, 63113229, 50490583);
+    payments(5, -4, 1000, 100, 80);
+    payments(5, -5, 1000, 0, 0);
+    payments(200000, 50000, 60000, 1500000000, 1200000000);
+    life();
+    printf("%lu passed, %lu failed\n", passed, failed);
+    return failed != 0;
+}
