@@ -135,7 +135,9 @@ pub fn rest_payment(full: Fen) -> Fen
     requires { ⌜ full .0 < 2 ^ 32 ⌝ }
     ensures { λ r. ⌜ r ≡ restPayment full ⌝ }
 {
-    Fen(full.0 - first_payment(full).0)
+    let first = first_payment(full).0;
+    let rest = full.0 - first;
+    Fen(rest)
 }
 
 // What the confirmation of an invoice pays, where `confirmed` and `paid` stand before it.

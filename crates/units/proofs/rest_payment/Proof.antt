@@ -7,12 +7,12 @@ use Rattle.units.proofs.rest_payment.Tie as tie
 first-payment-requires : tie.Need-first-payment-requires
 first-payment-requires c κs = search needs
 
-sub-t3 : tie.Need-sub-t3
-sub-t3 c = rw (c .before .before .first-payment .ensures) (first-le (c .before .before .before .args .full))
+sub-rest : tie.Need-sub-rest
+sub-rest c = rw (c .before .first-payment .ensures) (first-le (c .before .before .args .full))
 
 returns : tie.Need-returns
 unfolding restPayment
-returns c = rw (c .before .before .first-payment .ensures)
+returns c = rw (c .before .first-payment .ensures)
 
 pub rest-payment-spec : {M : Type 1} → statement M
-rest-payment-spec = tie.close (tie.spec first-payment-requires sub-t3 returns)
+rest-payment-spec = tie.close (tie.spec first-payment-requires sub-rest returns)
