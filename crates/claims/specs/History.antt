@@ -147,7 +147,7 @@ pub record OwnCall (c : Call) (e : Entry) : Type 0 where
   pub by : c .account ≡ e .from
   pub kind : T (oneOf (c .kind) (6 ∷ 7 ∷ []))
 
--- this call is a quote, and the lot's last entry before it is the buyer's own standing bid
+-- a quote strikes the bid that stands: the lot's last entry is the buyer's own 4, which answered its limit bid
 pub record OwnBid (c : Call) (e : Entry) (p : Past) : Type 0 where
   pub quote : c .kind ≡ 9
   pub stands : p .last ≡ 4

@@ -12,7 +12,7 @@ use Rattle.units.specs.Ranges.{receiptCount}
 use Rattle.zone.specs.declared.Zone.{Zone}
 use Rattle.rules.specs.declared.Call.{Call}
 use Rattle.rules.specs.declared.Entry.{Entry}
-use Rattle.image.specs.Table.{table, tableBytes, recordAt}
+use Rattle.image.specs.Table.{table, tableBytes, runAt}
 
 -- ── Lengths ────────────────────────────────────────────────────────────────────────────────────
 
@@ -87,4 +87,4 @@ entryIn b = record { lot = getD b 0 0; outcome = getD b 1 0; from = getD b 2 0; 
 
 -- as many as the answer says, from where it says on
 unfoldable pub entriesIn : List ℕ → List Entry
-entriesIn answer = table (leAt 2 answer 2) (λ i. entryIn (recordAt (leAt 4 answer 4) entryLength answer i))
+entriesIn answer = table (leAt 2 answer 2) (λ i. entryIn (runAt (leAt 4 answer 4) entryLength answer i))

@@ -14,7 +14,7 @@ use Rattle.zone.specs.declared.Account.{Account}
 use Rattle.zone.specs.declared.Receipt.{Receipt}
 use Rattle.zone.specs.declared.Record.{Record}
 use Rattle.zone.specs.Record.{recordOf, receiptOf}
-use Rattle.image.specs.Table.{table, recordAt}
+use Rattle.image.specs.Table.{table, runAt}
 
 -- ── Lengths and starts of the parts ────────────────────────────────────────────────────────────
 
@@ -87,7 +87,7 @@ accountBytes a = leBytes 8 (a .free .0) ++ leBytes 8 (a .frozen .0)
 
 -- the bytes of account k; accounts, contracts and receipts are counted from 0 here
 abbrev pub accountRun : List ℕ → ℕ → List ℕ
-accountRun s k = recordAt accountStart accountLength s k
+accountRun s k = runAt accountStart accountLength s k
 
 unfoldable pub accountsIn : List ℕ → List Account
 accountsIn s = table accountCount (λ i. accountIn (accountRun s i))
@@ -101,7 +101,7 @@ unfoldable pub askBytes : YuanPerTonne → List ℕ
 askBytes ask = leBytes 4 (ask .0)
 
 abbrev pub askRun : List ℕ → ℕ → List ℕ
-askRun s k = recordAt contractStart askLength s k
+askRun s k = runAt contractStart askLength s k
 
 unfoldable pub asksIn : List ℕ → List YuanPerTonne
 asksIn s = table contractCount (λ i. askIn (askRun s i))
@@ -140,7 +140,7 @@ recordBytes r =
     ++ leBytes 4 (r .paid .0)
 
 abbrev pub receiptRun : List ℕ → ℕ → List ℕ
-receiptRun s k = recordAt receiptStart receiptLength s k
+receiptRun s k = runAt receiptStart receiptLength s k
 
 unfoldable pub recordsIn : List ℕ → List Record
 recordsIn s = table receiptCount (λ i. recordIn (receiptRun s i))

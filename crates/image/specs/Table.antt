@@ -16,5 +16,5 @@ module _ {A : Type 0} where
   tableBytes bytes (x ∷ xs) = bytes x ++ tableBytes bytes xs
 
 -- record i of a table that starts at `at` and whose records have `size` bytes
-abbrev pub recordAt : ℕ → ℕ → List ℕ → ℕ → List ℕ
-recordAt at size s i = take size (drop (at + i * size) s)
+abbrev pub runAt : ℕ → ℕ → List ℕ → ℕ → List ℕ
+runAt at size s i = take size (drop (at + i * size) s)

@@ -99,7 +99,7 @@ fn unit_price(price: YuanPerTonne, basis: Basis) -> i64
     (price.0 as i64) + (basis.0 as i64)
 }
 
-// price + basis as an unsigned number; below 0 there is nothing to pay.
+// price + basis as an unsigned number. No valid trade has a sum below 0; the test stands so that the cast loses nothing for any fields.
 fn price_to_pay(price: YuanPerTonne, basis: Basis) -> u64
     ensures { λ r. ⌜ (r ≡ atLeast0 (unitPrice price basis)) × (r < 2 ^ 33) ⌝ }
 {

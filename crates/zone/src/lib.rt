@@ -1,4 +1,4 @@
-// The zone's values: accounts, receipts and the lots on them. A lot is the sale of one receipt and has its number.
+// The values of a zone: its accounts, and its receipts with their lots. A lot is the sale of its receipt; one number names both.
 ghost use mathlib.Core.Path.{_≡_};
 ghost use Rattle.zone.specs.Record.{recordOf, flatRecord, receiptOf, noListing, noBid, noInvoices, listingOf, bidOf, tradeOf, invoicesOf};
 use units::ACCOUNTS;

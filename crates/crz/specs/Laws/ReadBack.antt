@@ -9,7 +9,7 @@ use Rattle.wire.specs.LittleEndian.{leAt, leBytes}
 use Rattle.wire.specs.Laws.Bytes.{leAt-leBytes}
 use Rattle.zone.specs.declared.Zone.{Zone}
 use Rattle.rules.specs.declared.Entry.{Entry}
-use Rattle.image.specs.Table.{table, tableBytes, recordAt}
+use Rattle.image.specs.Table.{table, tableBytes, runAt}
 use Rattle.image.specs.Laws.Table.{is-table, record-back}
 use Rattle.crz.specs.Buffers.{answerLength, answerHeader, entryLength, entryBytes, entryIn, entriesIn, headerOf, acceptedBytes, acceptedAnswer, padded}
 use Rattle.crz.specs.Laws.Answer.{entry-wide, header-wide}
@@ -45,13 +45,13 @@ entries-back z es old h f =
     let rest : List ℕ = replicate (answerLength - length (head ++ body)) 0 ++ drop answerLength old in
     let whole : head ++ body ++ replicate (answerLength - length (head ++ body)) 0 ++ drop answerLength old ≡ head ++ body ++ rest =
     append-assoc (head ++ body) (replicate (answerLength - length (head ++ body)) 0) (drop answerLength old) in
-    ap (λ (s : List ℕ). table (leAt 2 s 2) (λ i. entryIn (recordAt (leAt 4 s 4) entryLength s i))) whole ∙ go head body rest
+    ap (λ (s : List ℕ). table (leAt 2 s 2) (λ i. entryIn (runAt (leAt 4 s 4) entryLength s i))) whole ∙ go head body rest
     (header-wide (z .afternoon) (length es) (z .total .0))
     (rw (append-assoc head body rest) (count-back (z .afternoon) (length es) (z .total .0) (body ++ rest) h))
     (rw (append-assoc head body rest) (offset-back (z .afternoon) (length es) (z .total .0) (body ++ rest))) refl
   where
     go : (head body rest : List ℕ) → length head ≡ answerHeader → leAt 2 (head ++ body ++ rest) 2 ≡ length es → leAt 4 (head ++ body ++ rest) 4 ≡ answerHeader → body ≡ tableBytes entryBytes es →
-        table (leAt 2 (head ++ body ++ rest) 2) (λ i. entryIn (recordAt (leAt 4 (head ++ body ++ rest) 4) entryLength (head ++ body ++ rest) i)) ≡ es
+        table (leAt 2 (head ++ body ++ rest) 2) (λ i. entryIn (runAt (leAt 4 (head ++ body ++ rest) 4) entryLength (head ++ body ++ rest) i)) ≡ es
     go head body rest hw n o e =
         rw (n, o) (sym (is-table none es (length es) _ refl (λ k p.
-        sym (ap entryIn (ap (λ (b : List ℕ). recordAt answerHeader entryLength (head ++ b ++ rest) k) e ∙ record-back entryBytes entryLength entry-wide none head rest es answerHeader k hw p) ∙ entry-back (getD es k none) (f k p)))))
+        sym (ap entryIn (ap (λ (b : List ℕ). runAt answerHeader entryLength (head ++ b ++ rest) k) e ∙ record-back entryBytes entryLength entry-wide none head rest es answerHeader k hw p) ∙ entry-back (getD es k none) (f k p)))))

@@ -22,7 +22,7 @@ use Rattle.zone.specs.Laws.Back.{receipt-back, record-back as record-same}
 use Rattle.zone.specs.Laws.Held.{money-le}
 use Rattle.zone.specs.Laws.Tests.{both, join}
 use Rattle.zone.specs.Laws.Valid.{all-at, zone-in, books-in, fresh-valid as fresh-zone-valid}
-use Rattle.image.specs.Table.{table, tableBytes, recordAt}
+use Rattle.image.specs.Table.{table, tableBytes, runAt}
 use Rattle.image.specs.Layout.{headerLength, accountLength, askLength, receiptLength, accountStart, contractStart, receiptStart, imageLength, accountRun, askRun, receiptRun, headerOk, headerBytes, dayIn, afternoonIn, totalIn, accountIn, accountBytes, accountsIn, askIn, askBytes, asksIn, recordIn, recordBytes, recordsIn, receiptsIn, receiptBytes}
 use Rattle.image.specs.Image.{validImage, decode, encode, Encoded, Fits}
 use Rattle.image.specs.Laws.Table.{length-table, getD-table, is-table, table-cong, map-table, tableBytes-table, length-tableBytes, record-back}
@@ -256,7 +256,7 @@ module _ (s : List ℕ) (ok : validImage s ≡ true) where
   valid-decode = rw (booksOk-map recordOf, records-same) (image-in s ok .books)
 
   module _ (bytes : Bytes s) where
-    part-long : (at size n k : ℕ) → at + n * size ≤ imageLength → k < n → length (recordAt at size s k) ≡ size
+    part-long : (at size n k : ℕ) → at + n * size ≤ imageLength → k < n → length (runAt at size s k) ≡ size
     part-long at size n k h p =
         let m : suc k * size ≤ n * size = mul-le-mul-right size p in
         let m′ : k * size + size ≤ n * size = rw suc-mul at m in

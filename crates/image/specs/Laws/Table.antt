@@ -15,7 +15,7 @@ use lib.ListN.{length, take, drop, getD, set, length-append, length-drop, length
 use lib.Seq.{sets, take-suc, take-at, take-add, take-append-le, drop-drop, drop-append-add, drop-append-le, length-take-le, getD-at, getD-take, getD-drop, getD-set-same, getD-set-other, ext-getD}
 use Rattle.wire.specs.LittleEndian.{leAt}
 use Rattle.wire.specs.Laws.Bytes.{sets-append}
-use Rattle.image.specs.Table.{table, tableBytes, recordAt}
+use Rattle.image.specs.Table.{table, tableBytes, runAt}
 
 -- ── A list by its elements ─────────────────────────────────────────────────────────────────────
 
@@ -90,7 +90,7 @@ pub part-wide : (at n : ℕ) (s : List ℕ) → take (at + n - at) (drop at s) �
 part-wide at n s = let e : at + n - at ≡ n = omega arith in ap (λ (m : ℕ). take m (drop at s)) e
 
 -- byte o of record k of a table
-pub byte-in : (at size k o : ℕ) (s : List ℕ) → o < size → getD (recordAt at size s k) o 0 ≡ getD s (at + o + k * size) 0
+pub byte-in : (at size k o : ℕ) (s : List ℕ) → o < size → getD (runAt at size s k) o 0 ≡ getD s (at + o + k * size) 0
 byte-in at size k o s h =
     let e : at + k * size + o ≡ at + o + k * size = omega arith in
     getD-take size (drop (at + k * size) s) o 0 h ∙ getD-drop (at + k * size) s o 0 ∙ ap (λ (i : ℕ). getD s i 0) e
@@ -116,7 +116,7 @@ module _ {A : Type 0} (f : A → List ℕ) where
   tableBytes-one l x = rw (tableBytes-append, append-nil)
 
   -- the bytes of a table whose records are those of a list
-  pub tableBytes-table : (g : ℕ → A) (at size : ℕ) (s : List ℕ) (n : ℕ) → ((i : ℕ) → i < n → f (g i) ≡ recordAt at size s i) →
+  pub tableBytes-table : (g : ℕ → A) (at size : ℕ) (s : List ℕ) (n : ℕ) → ((i : ℕ) → i < n → f (g i) ≡ runAt at size s i) →
       tableBytes f (table n g) ≡ take (n * size) (drop at s)
   unfolding tableBytes table
   tableBytes-table g at size s zero e = rw zero-mul
@@ -154,7 +154,7 @@ module _ {A : Type 0} (f : A → List ℕ) where
 
     -- record i of a table between other bytes
     pub record-back : (d : A) (p q : List ℕ) (l : List A) (at i : ℕ) → length p ≡ at → i < length l →
-        recordAt at size (p ++ tableBytes f l ++ q) i ≡ f (getD l i d)
+        runAt at size (p ++ tableBytes f l ++ q) i ≡ f (getD l i d)
     record-back d p q l at i hp h =
         let n : length (tableBytes f l) ≡ length l * size = length-tableBytes l in
         let m : suc i * size ≤ length l * size = mul-le-mul-right size h in
