@@ -76,7 +76,7 @@ static int paid_in(void)
            && all(answer.bytes + CRZ_ANSWER_ENTRIES, CRZ_ANSWER_LENGTH - CRZ_ANSWER_ENTRIES, 0);
 }
 
-/* what a call of this number leaves in the answer's first 1,040 bytes */
+/* what a call of this number leaves in the bytes that an answer has */
 static int answered(uint32_t number)
 {
     if (number == CRZ_NUMBER_SHORT_ANSWER)
@@ -98,7 +98,7 @@ static void try_call(enum lent_place place, int null, const struct lengths *of)
         expect(memcmp(image.bytes, image_before, image.len) == 0, "the image of a refusal", place, of);
     if (wanted != CRZ_NUMBER_SHORT_ANSWER)
         expect(
-            all(answer.bytes + CRZ_ANSWER_LENGTH, answer.len - CRZ_ANSWER_LENGTH, FILL), "bytes past 1,040", place, of);
+            all(answer.bytes + CRZ_ANSWER_LENGTH, answer.len - CRZ_ANSWER_LENGTH, FILL), "bytes past the answer", place, of);
 }
 
 static void try_fresh(enum lent_place place, int null, size_t len)

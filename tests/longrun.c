@@ -96,7 +96,7 @@ static uint32_t call_library(const struct request *q, int *kept)
     return number;
 }
 
-/* agreement on a changed image after a refusal, or on bytes past 1,040, would be wrong on both sides */
+/* agreement on a changed image after a refusal, or on bytes past the answer, would be wrong on both sides */
 static int same_on_both(const struct side *before, uint32_t number)
 {
     if (number != CRZ_NUMBER_ACCEPTED && memcmp(library.image, before->image, sizeof before->image) != 0)

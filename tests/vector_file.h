@@ -8,7 +8,7 @@
  *   C hex n      a call record, '-' for none, and the length of its answer buffer, which is filled with a5 before;
  *                behind it stand
  *   R n          the number returned,
- *   A hex        the answer up to byte 1,040 without its last zeros, '-' where nothing is written, and
+ *   A hex        the answer without its last zeros, '-' where nothing is written, and
  *   I o:hex ..   the bytes of the image that change, 'same' where none does
  *
  * A list beside the files says how many lines of each kind a file has. A line that is none of these, stands in another
