@@ -5,7 +5,7 @@ ghost use Prim.Native.Nat.{_≤_, _<_, _^_};
 ghost use Rattle.units.specs.Ranges.{isAmount, mostPrice, moneyLimit};
 ghost use Rattle.zone.specs.Held.{heldBy};
 ghost use Rattle.zone.specs.Valid.{recordValid};
-ghost use Rattle.rules.specs.Numbers.{brackets, isUsed, unusedZero, inRange, values, illFormed, outOfRange, wrongPhase, wrongState, wrongParty, notAbove, lacksAsk, notPayable, lacksMoney, aboveLimit, aboveInvoice, firstNumber};
+ghost use Rattle.rules.specs.Numbers.{illFormed, outOfRange, wrongPhase, wrongState, wrongParty, notAbove, lacksAsk, notPayable, lacksMoney, aboveLimit, aboveInvoice, firstNumber};
 ghost use Rattle.rules.specs.Ready.{Ready};
 use rules::Call;
 use rules::KIND_CONFIRM;
@@ -18,7 +18,6 @@ use rules::KIND_LODGE;
 use rules::KIND_MARKET_BID;
 use rules::KIND_MORNING_CLOSE;
 use rules::KIND_PAY_IN;
-use rules::KIND_QUOTE;
 use rules::KIND_REGISTER;
 use rules::KIND_TAKE_OUT;
 use rules::KIND_WITHDRAW_BID;
@@ -49,86 +48,18 @@ use zone::STATE_LISTED;
 use zone::STATE_SETTLED;
 use zone::STATE_STRUCK;
 
-// ── The fields that a kind uses ─────────────────────────────────────────────────────────────────
-
-fn uses_account(kind: u8) -> bool
-    ensures { λ r. ⌜ r ≡ isUsed 0 (brackets kind) ⌝ }
-{
-    (KIND_PAY_IN <= kind) & (kind <= KIND_WITHDRAW_BID)
-        | (kind == KIND_LODGE)
-        | (KIND_FIRST_PAYMENT <= kind) & (kind <= KIND_CONFIRM)
-}
-
-fn uses_receipt(kind: u8) -> bool
-    ensures { λ r. ⌜ r ≡ isUsed 1 (brackets kind) ⌝ }
-{
-    (KIND_REGISTER <= kind) & (kind <= KIND_WITHDRAW_BID)
-        | (kind == KIND_LODGE)
-        | (KIND_FIRST_PAYMENT <= kind) & (kind <= KIND_CONFIRM)
-}
-
-fn uses_contract(kind: u8) -> bool
-    ensures { λ r. ⌜ r ≡ isUsed 2 (brackets kind) ⌝ }
-{
-    (kind == KIND_LIST) | (kind == KIND_QUOTE)
-}
-
-fn uses_amount(kind: u8) -> bool
-    ensures { λ r. ⌜ r ≡ isUsed 4 (brackets kind) ⌝ }
-{
-    (kind == KIND_PAY_IN)
-        | (kind == KIND_TAKE_OUT)
-        | (kind == KIND_LIMIT_BID)
-        | (kind == KIND_QUOTE)
-        | (kind == KIND_INVOICE)
-}
-
-// Each field is used or zero. A listing alone uses D and basis, a registration alone the weight.
-fn unused_zero(c: Call) -> bool
-    ensures { λ r. ⌜ r ≡ unusedZero (brackets (c .kind)) 0 (values c) ⌝ }
-{
-    let kind = c.kind;
-    (uses_account(kind) | (c.account == 0))
-        & (uses_receipt(kind) | (c.receipt == 0))
-        & (uses_contract(kind) | (c.contract == 0))
-        & ((kind == KIND_LIST) | (c.days == 0))
-        & (uses_amount(kind) | (c.amount == 0))
-        & ((kind == KIND_LIST) | units::is_zero(c.basis))
-        & ((kind == KIND_REGISTER) | (c.weight == 0))
-        & (c.spare == 0)
-}
-
-// Each field is unused or in its range.
-fn in_range(c: Call) -> bool
-    ensures { λ r. ⌜ r ≡ inRange (brackets (c .kind)) (values c) ⌝ }
-{
-    let kind = c.kind;
-    let amount = c.amount;
-    let money = (kind == KIND_PAY_IN) | (kind == KIND_TAKE_OUT) | (kind == KIND_INVOICE);
-    let price = units::is_price(amount);
-    (!uses_account(kind) | units::is_account(c.account))
-        & (!uses_receipt(kind) | units::is_receipt(c.receipt))
-        & (!uses_contract(kind) | units::is_contract(c.contract))
-        & ((kind != KIND_LIST) | units::is_days(c.days))
-        & (!money | units::is_amount(amount))
-        & ((kind != KIND_LIMIT_BID) | price)
-        & ((kind != KIND_QUOTE) | ((amount == 0) | price))
-        & ((kind != KIND_LIST) | units::is_basis(c.basis))
-        & ((kind != KIND_REGISTER) | units::is_weight(c.weight))
-}
-
 // ── One test for each number ────────────────────────────────────────────────────────────────────
 
 fn ill_formed(c: Call) -> bool
     ensures { λ r. ⌜ r ≡ illFormed c ⌝ }
 {
-    !((KIND_PAY_IN <= c.kind) & (c.kind <= KIND_DAY_CLOSE) & unused_zero(c))
+    !((KIND_PAY_IN <= c.kind) & (c.kind <= KIND_DAY_CLOSE) & fields::unused_zero(c))
 }
 
 fn out_of_range(c: Call) -> bool
     ensures { λ r. ⌜ r ≡ outOfRange c ⌝ }
 {
-    !in_range(c)
+    !fields::in_range(c)
 }
 
 fn wrong_phase(v: View, c: Call) -> bool

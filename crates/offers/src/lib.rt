@@ -1,10 +1,8 @@
-// The code of the rules of registration, listings and bids: kinds 3 to 9 and 15.
-ghost use mathlib.Core.Bool.{true};
+// The code of the rules of registration, listings and bids: kinds 3 to 9.
 ghost use mathlib.Core.Path.{_≡_};
 ghost use Prim.Native.Nat.{_≤_};
 ghost use Rattle.units.specs.Ranges.{mostPrice, lastDay};
-ghost use Rattle.zone.specs.Valid.{recordValid};
-ghost use Rattle.rules.specs.Effects.{dueDay, bidStands, bidStruck, meetsAsk, register, listFor, withdrawListing, limitBid, marketBid, withdrawBid, quoteLot, dayCloseLot};
+ghost use Rattle.rules.specs.Effects.{dueDay, bidStands, bidStruck, meetsAsk, register, listFor, withdrawListing, limitBid, marketBid, withdrawBid, quoteLot};
 ghost use Rattle.rules.specs.Ready.{Ready};
 use rules::AtLot;
 use rules::Call;
@@ -62,19 +60,6 @@ pub fn end_listing(n: u8, f: Record) -> AtLot
         rules::by_owner(n, OUTCOME_ENDED, f.seller),
         rules::with_lot(f, Lot::Idle),
     )
-}
-
-// A day close ends a listing, whether a bid stands on it or not.
-pub fn day_close_at(n: u8, f: Record) -> AtLot
-    requires { ⌜ recordValid f ≡ true ⌝ }
-    ensures { λ x. ⌜ x ≡ dayCloseLot n f ⌝ }
-{
-    let r = zone::receipt_of(f);
-    let lot = r.lot;
-    match lot {
-        Lot::Listed(_) | Lot::BidStands(_, _) => end_listing(n, f),
-        _ => AtLot::NoEvent,
-    }
 }
 
 // ── Bids ────────────────────────────────────────────────────────────────────────────────────────

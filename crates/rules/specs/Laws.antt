@@ -2,6 +2,7 @@ pub mod Tables
 pub mod Moves
 pub mod Funded
 pub mod Kinds
+pub mod EveryKind
 pub mod Steps
 pub mod Passed
 pub mod Good

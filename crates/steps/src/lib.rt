@@ -38,11 +38,11 @@ pub fn rule_of(v: View, c: Call, n: u8, f: Record) -> AtLot
         KIND_WITHDRAW_BID => offers::withdraw_bid(n, f),
         KIND_QUOTE => offers::quote_at(v, c, n, f),
         KIND_LODGE => trades::lodge_at(n, f),
-        KIND_MORNING_CLOSE => trades::close_at(v, n, f),
+        KIND_MORNING_CLOSE => closes::close_at(v, n, f),
         KIND_FIRST_PAYMENT => trades::pay_first(n, f),
         KIND_INVOICE => trades::invoice_at(c, n, f),
         KIND_CONFIRM => trades::confirm_at(n, f),
-        KIND_DAY_CLOSE => offers::day_close_at(n, f),
+        KIND_DAY_CLOSE => closes::day_close_at(n, f),
         _ => AtLot::NoEvent,
     }
 }

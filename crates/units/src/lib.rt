@@ -1,8 +1,8 @@
 // Yuan per tonne, fen and kilograms as types, the ranges of numbers, and the money of a trade.
 ghost use mathlib.Core.Path.{_≡_};
-ghost use Prim.Native.Nat.{_+_, _-_, _≤_, _<_, _^_};
+ghost use Prim.Native.Nat.{_+_, _≤_, _<_, _^_};
 ghost use Rattle.units.specs.Ranges.{isZero, isAccount, isReceipt, isContract, isDays, isPrice, mostWeight, isBasis, isWeight, isAmount};
-ghost use Rattle.units.specs.Payments.{unitPrice, atLeast0, payable, fullPayment, firstPayment, restPayment, partPayment, deposit, penalty, penaltyPassed};
+ghost use Rattle.units.specs.Payments.{unitPrice, atLeast0, payable, fullPayment, firstPayment, restPayment, partPayment, deposit, penaltyPassed};
 
 // A price: whole yuan per tonne.
 pub struct YuanPerTonne(pub u32);

@@ -9,8 +9,8 @@ use Rattle.rules.specs.Laws.Cases.{state-among}
 use Rattle.rules.specs.Laws.Tables.{among-each, among-one}
 use Rattle.rules.specs.Tables.{among}
 use borrow.Author.Needs.{needs}
-use Rattle.trades.proofs.close_at.Statement.{statement}
-use Rattle.trades.proofs.close_at.Tie as tie
+use Rattle.closes.proofs.close_at.Statement.{statement}
+use Rattle.closes.proofs.close_at.Tie as tie
 
 returns : tie.Need-returns
 unfolding closeLot

@@ -3,8 +3,8 @@ use lib.Dec.{leb}
 use mathlib.Core.Path.{ap}
 use Rattle.zone.specs.Laws.Facts.{bounds}
 use borrow.Author.Needs.{needs}
-use Rattle.trades.proofs.has_money.Statement.{statement}
-use Rattle.trades.proofs.has_money.Tie as tie
+use Rattle.closes.proofs.has_money.Statement.{statement}
+use Rattle.closes.proofs.has_money.Tie as tie
 
 full-of-requires : tie.Need-full-of-requires
 full-of-requires c κs = bounds (c .args .f) (c .pre .valid) .weight

@@ -2,10 +2,10 @@ use mathlib.Core.Path.{_≡_}
 use mir.Syntax.{w32}
 use mir.Val.{toZ, ofZ}
 use mir.Facts.{toZ-ofZ}
-use Rattle.numbers.proofs.NumbersLaws.{all-in-range}
+use Rattle.fields.proofs.UsedFields.{all-in-range}
 use borrow.Author.Needs.{needs}
-use Rattle.numbers.proofs.in_range.Statement.{statement}
-use Rattle.numbers.proofs.in_range.Tie as tie
+use Rattle.fields.proofs.in_range.Statement.{statement}
+use Rattle.fields.proofs.in_range.Tie as tie
 
 -- the basis as the machine holds it
 kept : (c : tie.Start) → toZ w32 (ofZ w32 (c .args .c .basis)) ≡ c .args .c .basis

@@ -1,7 +1,7 @@
 use mathlib.Core.Path.{sym, _∙_}
 use borrow.Author.Needs.{needs}
-use Rattle.trades.proofs.close_struck.Statement.{statement}
-use Rattle.trades.proofs.close_struck.Tie as tie
+use Rattle.closes.proofs.close_struck.Statement.{statement}
+use Rattle.closes.proofs.close_struck.Tie as tie
 
 has-money-requires : tie.Need-has-money-requires
 has-money-requires c κs = search needs

@@ -3,8 +3,8 @@ use native.Mathlib.Omega.{arith}
 use Rattle.zone.specs.Laws.Facts.{bounds}
 use Rattle.zone.specs.Laws.Held.{full-le}
 use borrow.Author.Needs.{needs}
-use Rattle.trades.proofs.close_lodged.Statement.{statement}
-use Rattle.trades.proofs.close_lodged.Tie as tie
+use Rattle.closes.proofs.close_lodged.Statement.{statement}
+use Rattle.closes.proofs.close_lodged.Tie as tie
 
 has-money-requires : tie.Need-has-money-requires
 has-money-requires c κs = search needs

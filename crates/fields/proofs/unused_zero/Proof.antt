@@ -4,10 +4,10 @@ use mir.Val.{toZ, ofZ}
 use mir.Facts.{toZ-ofZ}
 use Rattle.units.specs.Ranges.{isZero}
 use Rattle.rules.specs.Numbers.{brackets}
-use Rattle.numbers.proofs.NumbersLaws.{days-used, basis-used, weight-used, spare-unused, unused}
+use Rattle.fields.proofs.UsedFields.{days-used, basis-used, weight-used, spare-unused, unused}
 use borrow.Author.Needs.{needs}
-use Rattle.numbers.proofs.unused_zero.Statement.{statement}
-use Rattle.numbers.proofs.unused_zero.Tie as tie
+use Rattle.fields.proofs.unused_zero.Statement.{statement}
+use Rattle.fields.proofs.unused_zero.Tie as tie
 
 uses-account-requires : tie.Need-uses-account-requires
 uses-account-requires c κs = search needs

@@ -8,8 +8,8 @@ use Rattle.rules.specs.Laws.Cases.{state-among}
 use Rattle.rules.specs.Laws.Tables.{among-each}
 use Rattle.rules.specs.Tables.{among}
 use borrow.Author.Needs.{needs}
-use Rattle.offers.proofs.day_close_at.Statement.{statement}
-use Rattle.offers.proofs.day_close_at.Tie as tie
+use Rattle.closes.proofs.day_close_at.Statement.{statement}
+use Rattle.closes.proofs.day_close_at.Tie as tie
 
 receipt-of-requires : tie.Need-receipt-of-requires
 receipt-of-requires c κs = search needs

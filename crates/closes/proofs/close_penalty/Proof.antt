@@ -3,8 +3,8 @@ use native.Mathlib.Omega.{arith}
 use Rattle.units.specs.Laws.Bounds.{penalty-at-most}
 use Rattle.units.specs.Payments.{perReceipt}
 use borrow.Author.Needs.{needs}
-use Rattle.trades.proofs.close_penalty.Statement.{statement}
-use Rattle.trades.proofs.close_penalty.Tie as tie
+use Rattle.closes.proofs.close_penalty.Statement.{statement}
+use Rattle.closes.proofs.close_penalty.Tie as tie
 
 penalty-passed-requires : tie.Need-penalty-passed-requires
 penalty-passed-requires c κs = search needs
