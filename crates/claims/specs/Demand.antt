@@ -12,7 +12,7 @@ use Rattle.zone.specs.Valid.{freshZone}
 use Rattle.rules.specs.declared.Call.{Call}
 use Rattle.rules.specs.View.{freeAt, frozenAt, receiptAt}
 use Rattle.image.specs.Image.{validImage, decode, encode}
-use Rattle.crz.specs.Buffers.{callIn, entriesIn}
+use Rattle.answers.specs.Buffers.{callIn, entriesIn}
 use Rattle.crz.specs.Returned.{Returned}
 use Rattle.claims.specs.History.{Reply, refusedWith, acceptedWith, history, heldOver, Exact, belongs, EachStrikeFair}
 

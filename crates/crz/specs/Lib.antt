@@ -1,4 +1,3 @@
 pub mod Fresh
-pub mod Buffers
 pub mod Returned
 pub mod Laws

@@ -13,7 +13,7 @@ use Rattle.rules.specs.Effects.{effect}
 use Rattle.rules.specs.Order.{AnswerOrder}
 use Rattle.rules.specs.Steps.{numberOn}
 use Rattle.image.specs.Image.{validImage, decode, encode}
-use Rattle.crz.specs.Buffers.{callLength, callIn, answerLength, refusedAnswer, acceptedAnswer}
+use Rattle.answers.specs.Buffers.{callLength, callIn, answerLength, refusedAnswer, acceptedAnswer}
 
 -- ── The number ─────────────────────────────────────────────────────────────────────────────────
 

@@ -25,7 +25,7 @@ use Rattle.rules.specs.Laws.Passed.{as-kind, ranges, PassedAt, passed-at}
 use Rattle.rules.specs.Laws.Ready.{MoneyIn, MoneyOut, money-in, money-out, quoted-contract}
 use Rattle.rules.specs.Laws.Tables.{put-index}
 use Rattle.events.specs.Laws.Moved.{Moved, moved, encoded}
-use Rattle.calls.specs.Laws.Good.{good-decode}
+use Rattle.lots.specs.Laws.Visits.{good-decode}
 use borrow.Author.Needs.{needs}
 use Rattle.calls.proofs.open_call.Statement.{statement}
 use Rattle.calls.proofs.open_call.Tie as tie

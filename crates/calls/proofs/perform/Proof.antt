@@ -19,9 +19,10 @@ use Rattle.rules.specs.Laws.Links.{last-good}
 use Rattle.rules.specs.Laws.Passed.{PassedAt, passed-at}
 use Rattle.rules.specs.Laws.Steps.{AcceptedAs, accepted-as}
 use Rattle.events.specs.Posting.{CanPost}
-use Rattle.calls.specs.declared.Entries.{Entries}
-use Rattle.calls.specs.EntryArray.{entryArray}
-use Rattle.calls.specs.Laws.Good.{Of, bytes-of, good-decode}
+use Rattle.rules.specs.declared.Entries.{Entries}
+use Rattle.rules.specs.EntryArray.{entryArray}
+use Rattle.lots.specs.Laws.Visits.{good-decode}
+use Rattle.calls.specs.Laws.Good.{Of, bytes-of}
 use Rattle.calls.specs.Laws.Lots.{AtReceipt, at-receipt, all-lots}
 use borrow.Author.Needs.{needs}
 use Rattle.calls.proofs.perform.Statement.{statement}

@@ -4,7 +4,7 @@ use Rattle.rules.specs.declared.AtLot.{AtLot}
 use Rattle.image.specs.Image.{decode, encode}
 use Rattle.rules.specs.Events.{afterLot}
 use Rattle.events.specs.Posting.{CanPost}
-use Rattle.calls.specs.EntryArray.{entryArray}
+use Rattle.rules.specs.EntryArray.{entryArray}
 use borrow.Author.Needs.{needs}
 use Rattle.calls.proofs.post_one.Statement.{statement}
 use Rattle.calls.proofs.post_one.Tie as tie

@@ -18,9 +18,10 @@ use Rattle.rules.specs.Events.{afterLot, posted, sweep}
 use Rattle.rules.specs.Laws.Chain.{swept}
 use Rattle.rules.specs.Laws.Good.{Good}
 use Rattle.events.specs.Posting.{Postable}
-use Rattle.calls.specs.declared.Entries.{Entries}
-use Rattle.calls.specs.EntryArray.{entryArray}
-use Rattle.calls.specs.Laws.Good.{Of, bytes-of, good-decode, visit-posts}
+use Rattle.rules.specs.declared.Entries.{Entries}
+use Rattle.rules.specs.EntryArray.{entryArray}
+use Rattle.lots.specs.Laws.Visits.{good-decode}
+use Rattle.calls.specs.Laws.Good.{Of, bytes-of, visit-posts}
 use Rattle.calls.specs.Laws.Swept.{recorded, good-at, room, next-zone, next-entries, same-entries}
 use borrow.Author.Needs.{needs}
 use Rattle.calls.proofs.sweep_lots.Statement.{statement}

@@ -1,12 +1,11 @@
 -- An image that is the bytes of a good zone: the zone is had back, and its parts may be read and put.
 -- Assumes nothing.
-use mathlib.Core.Bool.{true, false≢true}
+use mathlib.Core.Bool.{true}
 use mathlib.Core.List.{List}
-use mathlib.Core.Path.{_≡_, refl, ap, _∙_, subst}
+use mathlib.Core.Path.{_≡_, refl, ap, _∙_}
 use Prim.Native.Nat.{ℕ, zero-le, _≤_, _<_}
 use Rattle.units.specs.Ranges.{receiptCount}
 use Rattle.zone.specs.declared.Receipt.{Receipt}
-use Rattle.zone.specs.declared.Record.{Record}
 use Rattle.zone.specs.declared.Zone.{Zone}
 use Rattle.zone.specs.Parts.{withAsks}
 use Rattle.zone.specs.Valid.{Sized, validZone, noAsks, all, askOk}
@@ -15,21 +14,16 @@ use Rattle.image.specs.Laws.RoundTrip.{decode-fits, decode-sized, valid-fits}
 use Rattle.rules.specs.declared.Call.{Call}
 use Rattle.rules.specs.declared.Entry.{Entry}
 use Rattle.rules.specs.declared.AtLot.the-variants.{Event}
-use Rattle.rules.specs.Effects.{ruleAt, sweeps}
+use Rattle.rules.specs.Effects.{ruleAt}
 use Rattle.rules.specs.Laws.Chain.{Visit}
 use Rattle.rules.specs.Laws.Fit.{fit-valid}
-use Rattle.rules.specs.Laws.Good.{Good, good-of, valid-of}
+use Rattle.rules.specs.Laws.Good.{Good, valid-of}
 use Rattle.rules.specs.Laws.Links.{Linked, linked, link-funded}
-use Rattle.rules.specs.Ready.{ReadyCall}
 use Rattle.events.specs.Laws.Moved.{encoded}
 use Rattle.events.specs.Posting.{Postable}
 
 pub good-fits : (z : Zone) → Good z → Fits z
 good-fits z G = valid-fits z (valid-of z G)
-
--- the zone of bytes, where that is valid
-pub good-decode : (s : List ℕ) → validZone (decode s) ≡ true → Good (decode s)
-good-decode s h = good-of (decode s) (decode-sized s) h
 
 -- s is the bytes of the good zone z
 pub record Of (s : List ℕ) (z : Zone) : Type 0 where
@@ -50,14 +44,6 @@ visit-posts {c} {z} {n} {e} {r} G a h v q =
     let L : Linked c 0 z n e r = linked n e r a zero-le h v q G in
     let k : e .lot ≡ n = L .fit .entry .lot in
     record { fits = good-fits z G; low = rw k a; high = rw k h; valid = fit-valid (L .fit); funded = link-funded L }
-
--- a call through all lots is none of the kinds that are tested at their lot
-pub swept-ready : (c : Call) (f : Record) → sweeps (c .kind) ≡ true → ReadyCall c f
-swept-ready c f h =
-    record { price = λ e. none 6 e false≢true; invoice = λ e. none 13 e false≢true; pending = λ e. none 14 e false≢true }
-  where
-    none : {X : Type 0} (k : ℕ) → c .kind ≡ k → (sweeps k ≡ true → ⊥) → X
-    none k e f = absurd (f (subst (λ (j : ℕ). sweeps j ≡ true) e h))
 
 -- a day close clears the asks
 pub cleared : (s s′ : List ℕ) → Fits (decode s) → s′ ≡ encode (withAsks (decode s) noAsks) → decode s′ ≡ withAsks (decode s) noAsks

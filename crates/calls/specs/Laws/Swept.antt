@@ -20,8 +20,8 @@ use Rattle.rules.specs.Events.{Done, afterLot, sweep}
 use Rattle.rules.specs.Laws.Chain.{swept}
 use Rattle.rules.specs.Laws.Good.{Good}
 use Rattle.rules.specs.Laws.Links.{after-good}
-use Rattle.calls.specs.declared.Entries.{Entries}
-use Rattle.calls.specs.EntryArray.{noEntry, entryArray}
+use Rattle.rules.specs.declared.Entries.{Entries}
+use Rattle.rules.specs.EntryArray.{noEntry, entryArray}
 
 -- the entries that the code has after one step more
 abbrev pub recorded : Entries → AtLot → Entries

@@ -18,8 +18,8 @@ use Rattle.rules.specs.Order.{Permuted, none, keep, swap, via, AnswerOrder, asR
 use Rattle.rules.specs.Steps.{numberOn}
 use Rattle.image.specs.Image.{validImage, decode, encode}
 use Rattle.image.specs.Laws.RoundTrip.{decode-encode, valid-encode, valid-decode, fresh-valid, fresh-sized, decode-sized}
-use Rattle.crz.specs.Buffers.{callLength, answerLength, callIn, entriesIn, acceptedAnswer}
-use Rattle.crz.specs.Laws.ReadBack.{Numbered, entries-back}
+use Rattle.answers.specs.Buffers.{callLength, answerLength, callIn, entriesIn, acceptedAnswer}
+use Rattle.answers.specs.Laws.ReadBack.{Numbered, entries-back}
 use Rattle.crz.specs.Returned.{behindBuffers, callNumber, recordNumber, Left, refused, accepted}
 use Rattle.claims.specs.Demand.{Exchange, MadeFrom, noCalls, next, fed, KeepsImage, ImageKept, StaysValid, Demand3}
 use Rattle.claims.specs.History.{acceptedWith}

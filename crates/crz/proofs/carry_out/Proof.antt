@@ -10,9 +10,10 @@ use Rattle.rules.specs.Laws.Chain.{taken}
 use Rattle.rules.specs.Laws.Good.{Good}
 use Rattle.rules.specs.Laws.Keeps.{taken-good}
 use Rattle.rules.specs.Laws.Steps.{accepted-as}
-use Rattle.calls.specs.declared.Entries.{Entries}
-use Rattle.calls.specs.Laws.Good.{bytes-of, good-decode}
-use Rattle.crz.specs.Buffers.{acceptedAnswer}
+use Rattle.rules.specs.declared.Entries.{Entries}
+use Rattle.lots.specs.Laws.Visits.{good-decode}
+use Rattle.calls.specs.Laws.Good.{bytes-of}
+use Rattle.answers.specs.Buffers.{acceptedAnswer}
 use Rattle.crz.specs.Laws.Entries.{count-few, entries-listed}
 use borrow.Author.Needs.{needs}
 use Rattle.crz.proofs.carry_out.Statement.{statement}

@@ -14,7 +14,7 @@ use Rattle.rules.specs.declared.Entry.{Entry}
 use Rattle.rules.specs.Effects.{ruleAt, opening, firstLot, lotCount, effect}
 use Rattle.rules.specs.Tables.{among}
 use Rattle.calls.specs.Laws.Swept.{sweep-few}
-use Rattle.calls.specs.EntryArray.{entryArray}
+use Rattle.rules.specs.EntryArray.{entryArray}
 
 lots-few : (c : Call) → lotCount c ≤ receiptCount
 unfolding lotCount

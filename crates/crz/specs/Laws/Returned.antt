@@ -15,7 +15,7 @@ use Rattle.rules.specs.Numbers.{illFormed, firstNumber}
 use Rattle.rules.specs.Order.{asRuled}
 use Rattle.rules.specs.Steps.{stepAt, numberOn}
 use Rattle.image.specs.Image.{validImage, decode, encode}
-use Rattle.crz.specs.Buffers.{callLength, answerLength, callIn, noCall, callOrNone, refusedAnswer, acceptedAnswer}
+use Rattle.answers.specs.Buffers.{callLength, answerLength, callIn, noCall, callOrNone, refusedAnswer, acceptedAnswer}
 use Rattle.crz.specs.Returned.{behindBuffers, callNumber, recordNumber, refusal, Left, refused, accepted, ReturnedWith, Returned}
 
 -- ── The number ─────────────────────────────────────────────────────────────────────────────────

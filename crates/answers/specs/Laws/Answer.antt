@@ -1,0 +1,64 @@
+-- The answer buffer: a run over zeros.
+-- Assumes nothing.
+use mathlib.Core.Bool.{Bool}
+use mathlib.Core.List.{List, _++_, append-assoc}
+use mathlib.Core.Path.{_≡_, refl, sym, ap, _∙_}
+use Prim.Native.Nat.{ℕ, zero, suc, _-_, _≤_}
+use native.Mathlib.Nat.{sub-zero, le-of-suc-le-suc, not-suc-le-zero}
+use native.Mathlib.Omega.{arith}
+use lib.ListN.{length, drop, replicate, length-replicate, length-append}
+use lib.Seq.{sets, drop-append-le}
+use Rattle.wire.specs.LittleEndian.{leBytes}
+use Rattle.wire.specs.Laws.Bytes.{sets-append}
+use Rattle.units.specs.Ranges.{receiptCount}
+use Rattle.zone.specs.declared.Zone.{Zone}
+use Rattle.rules.specs.declared.Entry.{Entry}
+use Rattle.image.specs.Table.{tableBytes}
+use Rattle.image.specs.Laws.Places.{put-front}
+use Rattle.image.specs.Laws.Table.{length-tableBytes}
+use Rattle.answers.specs.Buffers.{answerLength, answerHeader, entryLength, entryBytes, headerOf, acceptedBytes, acceptedAnswer, padded}
+
+drop-replicate : (n m : ℕ) (x : ℕ) → n ≤ m → drop n (replicate m x) ≡ replicate (m - n) x
+drop-replicate zero m x h = rw sub-zero
+drop-replicate (suc n) zero x h = absurd (not-suc-le-zero h)
+drop-replicate (suc n) (suc m) x h =
+    let e : m - n ≡ suc m - suc n = omega arith in
+    drop-replicate n m x (le-of-suc-le-suc h) ∙ rw e
+
+-- a run put over zeros
+pub run-over-zeros : (old bytes : List ℕ) → answerLength ≤ length old → length bytes ≤ answerLength →
+    sets (sets old 0 (replicate answerLength 0)) 0 bytes ≡ padded bytes old
+unfolding padded
+run-over-zeros old bytes h k = go (replicate answerLength 0) (length-replicate {A = ℕ} answerLength 0) (drop-replicate (length bytes) answerLength 0 k)
+  where
+    go : (zeros : List ℕ) → length zeros ≡ answerLength → drop (length bytes) zeros ≡ replicate (answerLength - length bytes) 0 →
+        sets (sets old 0 zeros) 0 bytes ≡ bytes ++ replicate (answerLength - length bytes) 0 ++ drop answerLength old
+    go zeros z e =
+        let a : sets old 0 zeros ≡ zeros ++ drop answerLength old = put-front old zeros (rw z h) ∙ rw z in
+        let n : length bytes ≤ length zeros = rw z k in
+        let m : length bytes ≤ length (zeros ++ drop answerLength old) = rw length-append (omega arith) in
+        ap (λ (s : List ℕ). sets s 0 bytes) a ∙ put-front (zeros ++ drop answerLength old) bytes m ∙ rw (drop-append-le (length bytes) zeros (drop answerLength old), e)
+        (sym (append-assoc bytes (replicate (answerLength - length bytes) 0) (drop answerLength old)))
+
+pub entry-wide : (e : Entry) → length (entryBytes e) ≡ entryLength
+unfolding entryBytes leBytes
+entry-wide e = refl
+
+pub header-wide : (afternoon : Bool) (count total : ℕ) → length (headerOf afternoon count total) ≡ answerHeader
+unfolding headerOf leBytes
+header-wide afternoon count total = refl
+
+-- header and entries put over zeros, one after the other
+pub answer-padded : (old : List ℕ) (z : Zone) (es : List Entry) → answerLength ≤ length old → length es ≤ receiptCount →
+    sets (sets (sets old 0 (replicate answerLength 0)) 0 (headerOf (z .afternoon) (length es) (z .total .0))) answerHeader (tableBytes entryBytes es)
+    ≡ acceptedAnswer z es old
+unfolding acceptedBytes
+answer-padded old z es h k =
+    let head : List ℕ = headerOf (z .afternoon) (length es) (z .total .0) in
+    let wide : length head ≡ answerHeader = header-wide (z .afternoon) (length es) (z .total .0) in
+    let n : length (head ++ tableBytes entryBytes es) ≤ answerLength =
+    rw (length-append, wide, length-tableBytes entryBytes entryLength entry-wide es) (omega arith) in
+    go (sets old 0 (replicate answerLength 0)) head wide ∙ run-over-zeros old (head ++ tableBytes entryBytes es) h n
+  where
+    go : (s head : List ℕ) → length head ≡ answerHeader → sets (sets s 0 head) answerHeader (tableBytes entryBytes es) ≡ sets s 0 (head ++ tableBytes entryBytes es)
+    go s head wide = sym (rw (sets-append, wide))
