@@ -13,13 +13,13 @@ record-numbered-requires : tie.Need-record-numbered-requires
 record-numbered-requires c κs = (sym (encode-decode _ (c .before .pre) (λ k. c .shared-slice-known .given k .fits)), valid-fits _ (valid-decode _ (c .before .pre)))
 
 view-of-requires : tie.Need-view-of-requires
-view-of-requires c κs = (valid-long _ (c .before .before .pre), rw (c .record-numbered .ensures) (record-valid _ (valid-fits _ (valid-decode _ (c .before .before .pre))) (c .before .before .args .c .receipt)))
+view-of-requires c κs = (valid-long _ (c .before .before .pre), rw (c .record-numbered .ensures) (record-valid _ (valid-fits _ (valid-decode _ (c .before .before .pre))) _))
 
 step-at-requires : tie.Need-step-at-requires
 step-at-requires c κs =
     let z = decode (now (c .before .before .before .args .image)) in
     let G : Good z = good-decode _ (valid-decode _ (c .before .before .before .pre)) in
-    rw (c .view-of .ensures, c .before .record-numbered .ensures) (ready-at z G (c .before .before .before .args .c) (c .before .before .before .args .c .receipt))
+    rw (c .view-of .ensures, c .before .record-numbered .ensures) (ready-at z G (c .before .before .before .args .c) _)
 
 returns : tie.Need-returns
 returns c = rw (c .step-at .ensures, c .before .view-of .ensures, c .before .before .record-numbered .ensures)
