@@ -22,6 +22,7 @@
 #include "digits.h"
 #include "file.h"
 #include "report.h"
+#include "signals.h"
 
 enum { APPLICATION = 0x63727a66, PAGE = 4096, HEADER = 100, BATCH = 64, LONGEST_PATH = 480 };
 
@@ -63,6 +64,7 @@ struct store {
     enum store_use use;
     unsigned wait;
     struct timespec since; /* when the present wait began */
+    struct timespec turn;  /* when others were last let in */
     int told;              /* that a wait goes on */
     dev_t device;
     ino_t file;
@@ -87,7 +89,7 @@ int store_damaged(const char *name, enum store_use use, const char *what)
 {
     if (use == STORE_VERIFY)
         return report(name, "damaged: %s; go back to a copy that verifies", what);
-    return report(name, "damaged: %s; 'crz verify' looks for the first bad line", what);
+    return report(name, "damaged: %s; 'crz verify %s' looks for the first bad line", what, name);
 }
 
 static int damaged(const struct store *store, const char *what)
@@ -106,6 +108,26 @@ static int moved(const struct store *store)
     return report(store->name, "the file was moved or replaced while in use; nothing more is done");
 }
 
+/* The lock did not come free in time. */
+static int busy(const struct store *store)
+{
+    if (signals_came())
+        return report(store->name, "in use by another program; the program was asked to end before that was over");
+    return report(store->name, "in use by another program; gave up after %u second%s, --wait SECONDS waits longer",
+        store->wait, plural(store->wait));
+}
+
+static int disk_failed(const struct store *store, int code, const char *words)
+{
+    if (code == SQLITE_IOERR_DELETE)
+        return report(store->name,
+            "a program was cut off while it wrote, and the file %s-journal that it left cannot be removed: %s; open "
+            "the "
+            "zone once as the user whose file that is",
+            store->path, words);
+    return report(store->name, "the disk reports an error: %s", words);
+}
+
 static int failed_at(struct store *store, int code)
 {
     const char *name = store->name;
@@ -115,9 +137,7 @@ static int failed_at(struct store *store, int code)
     if (store->file != 0 && !in_place(store, &is))
         return moved(store);
     switch (code & 0xff) {
-    case SQLITE_BUSY:
-        return report(name, "in use by another program; gave up after %u second%s, --wait SECONDS waits longer",
-            store->wait, plural(store->wait));
+    case SQLITE_BUSY: return busy(store);
     case SQLITE_FULL: return report(name, "the disk is full; make room and try again");
     case SQLITE_CORRUPT:
     case SQLITE_NOTADB: return damaged(store, "the file is not laid out as a store");
@@ -125,7 +145,7 @@ static int failed_at(struct store *store, int code)
         return report(name, "a program was cut off while it wrote; open the zone once as a user who may write it");
     case SQLITE_CANTOPEN:
         return report(name, "it or the file %s-journal beside it cannot be opened: %s", store->path, words);
-    case SQLITE_IOERR: return report(name, "the disk reports an error: %s", words);
+    case SQLITE_IOERR: return disk_failed(store, code, words);
     default: return report(name, "SQLite: %s", sqlite3_errmsg(store->base));
     }
 }
@@ -142,20 +162,20 @@ static void start_wait(struct store *store)
     clock_gettime(CLOCK_MONOTONIC, &store->since);
 }
 
-static double waited(const struct store *store)
+static double seconds_since(const struct timespec *then)
 {
     struct timespec now;
     clock_gettime(CLOCK_MONOTONIC, &now);
-    return (double)(now.tv_sec - store->since.tv_sec) + (double)(now.tv_nsec - store->since.tv_nsec) / 1e9;
+    return (double)(now.tv_sec - then->tv_sec) + (double)(now.tv_nsec - then->tv_nsec) / 1e9;
 }
 
 /* SQLite asks this whenever a lock is taken: 1 to try again. */
 static int try_again(void *context, int tries)
 {
     struct store *store = context;
-    double seconds = waited(store);
+    double seconds = seconds_since(&store->since);
     struct timespec pause = {0, 500000 + 500000 * (tries % 7)}; /* others wait with other pauses */
-    if (seconds >= store->wait)
+    if (seconds >= store->wait || signals_came())
         return 0;
     if (seconds >= 1 && !store->told) {
         store->told = 1;
@@ -163,6 +183,16 @@ static int try_again(void *context, int tries)
     }
     nanosleep(&pause, NULL);
     return 1;
+}
+
+/* Others look for the lock every few milliseconds: who makes call after call stands back for one such look. */
+static void give_way(struct store *store)
+{
+    const struct timespec pause = {0, 5000000};
+    if (seconds_since(&store->turn) < 0.05)
+        return;
+    nanosleep(&pause, NULL);
+    clock_gettime(CLOCK_MONOTONIC, &store->turn);
 }
 
 /* ── Statements ────────────────────────────────────────────────────────────────────────────────── */
@@ -401,7 +431,7 @@ static int judge_file(const char *name, enum store_use use, struct stat *is)
     uint8_t header[HEADER];
     int file = open(name, O_RDONLY | O_NONBLOCK | O_NOCTTY | O_CLOEXEC);
     if (file < 0 && errno == ENOENT)
-        return report(name, "there is no such file; 'crz new FILE' makes a zone");
+        return report(name, "there is no such file; 'crz new %s' makes a zone", name);
     if (file < 0)
         return report(name, "cannot be opened: %s", strerror(errno));
     int bad = judge_kind(name, file, is);
@@ -458,7 +488,7 @@ static int judge_writing(const char *name, const char *path, const struct stat *
 {
     if ((is->st_mode & (S_IWUSR | S_IWGRP | S_IWOTH)) == 0)
         return report(
-            name, "nobody may write it (mode %03o); 'chmod u+w FILE' allows it", (unsigned)is->st_mode & 07777);
+            name, "nobody may write it (mode %03o); 'chmod u+w %s' allows it", (unsigned)is->st_mode & 07777, name);
     if (is->st_nlink > 1)
         return report(name, "has %lu names (hard links), which SQLite cannot keep apart; remove the others",
             (unsigned long)is->st_nlink);
@@ -498,6 +528,7 @@ static int set_up(struct store *store)
     sqlite3_db_config(store->base, SQLITE_DBCONFIG_ENABLE_VIEW, 0, NULL);
     sqlite3_busy_handler(store->base, try_again, store);
     start_wait(store);
+    store->turn = store->since;
     if (execute(store, "PRAGMA trusted_schema = OFF") != 0 || execute(store, "PRAGMA cell_size_check = ON") != 0
         || execute(store, "PRAGMA mmap_size = 0") != 0 || execute(store, "PRAGMA temp_store = MEMORY") != 0
         || execute(store, "PRAGMA fullfsync = ON") != 0 || execute(store, "PRAGMA synchronous = EXTRA") != 0)
@@ -672,6 +703,7 @@ void store_cancel(struct store *store)
 
 int store_begin(struct store *store)
 {
+    give_way(store);
     start_wait(store);
     if (run(store, BEGIN) != 0)
         return -1;

@@ -12,8 +12,16 @@ ends 0 "crz 1.0.0, zone format 1, SQLite 3" --version
 for command in new call play show log verify statement due import export; do
     ends 0 "crz $command FILE" help "$command"
     ends 0 "crz $command FILE" "$command" --help
+    ends 0 "crz 1.0.0, zone format 1" "$command" --version
     ends 2 "$command takes FILE" "$command"
 done
+ends 0 "crz new FILE" help --help
+ends 0 "crz new FILE" help help
+ends 0 "crz 1.0.0" help --version
+ends 0 "kilograms   1,000 to 60,000" help call
+ends 0 "limit-bid account N receipt N yuan N" help limit-bid
+ends 0 "yuan        5 to 200,000 in steps of 5" help limit-bid
+ends 2 "'limt-bid' is no command and no kind of call; did you mean 'limit-bid'?" help limt-bid
 ends 0 "limit-bid account N receipt N yuan N" help call
 ends 0 "any account but the seller" help call
 holds "crz new --help makes no zone" test ! -e --help
@@ -21,7 +29,8 @@ ends 2 "'statment' is no command; did you mean 'statement'?" statment zone 1
 ends 2 "'hlep' is no command; did you mean 'help'?" hlep
 ends 2 "'--versoin' is no command; did you mean '--version'?" --versoin
 ends 2 "'pay-in' is a kind of call: 'crz call FILE pay-in ..'" pay-in zone
-ends 2 "'shwo' is no command; did you mean 'show'?" help shwo
+ends 2 "'shwo' is no command and no kind of call; did you mean 'show'?" help shwo
+ends 2 "'s?[31m' is no command" $'s\e[31m'
 ends 2 "show: '--jsno' is no option of it; did you mean '--json'?" show zone --jsno
 ends 2 "show: '--stop' is no option of it" show zone --stop
 ends 2 "show takes FILE; 'more' is too much" show zone more
@@ -30,9 +39,11 @@ ends 2 "log: --account: 97 is not in 1 to 96" log zone --account 97
 ends 2 "log: --lot has no value" log zone --lot
 ends 2 "log: --last is there twice" log zone --last 1 --last=2
 ends 2 "log: --head takes no value" log zone --head=1
+ends 2 "log: --head does not go together with --account, --lot or --last" log zone --head --last 1
 ends 2 "statement: account '0' is not in 1 to 96" statement zone 0
 ends 2 "statement: account 'eleven' is not a whole number" statement zone eleven
-ends 3 "there is no such file" show zone
+ends 3 "zone: there is no such file; 'crz new zone' makes a zone" show zone
+ends 3 "crz: '': there is no such file" show ""
 ends 3 "there is no such file" call zone day-close
 ends 3 "the call was not made" call zone day-close
 holds "a call on no zone leaves no file" test ! -e zone
@@ -55,9 +66,14 @@ ends 2 "not a whole number" call zone pay-in account 3 fen -
 ends 2 "grouped in another way" call zone pay-in account 3 fen 12,34
 ends 2 "grouped in another way" call zone pay-in account 3 fen 1234,567
 ends 2 "grouped in another way" call zone pay-in account 3 fen ,123
+ends 2 "grouped in another way" call zone pay-in account 3 fen 0,005
+ends 2 "grouped in another way" call zone pay-in account 3 fen 000,123
 ends 2 "account: 256 does not fit; it takes 1 to 96" call zone pay-in account 256 fen 1
 ends 2 "does not fit" call zone pay-in account 3 fen -1
 ends 2 "is too large" call zone pay-in account 3 fen 99999999999999999999
+ends 2 "99..' is too large" call zone pay-in account 3 fen "$(printf '9%.0s' $(seq 2000))"
+ends 2 "aa..' is no kind of call" call zone "$(printf 'a%.0s' $(seq 2000))"
+ends 2 "aa..' is no field" call zone pay-in "$(printf 'a%.0s' $(seq 2000))" 1
 holds "bad words leave no line" test "$(sequence zone)" -eq 0
 ends 0 "accepted, sequence 1: morning, total 1,234,567 fen" call zone pay-in account 3 fen 1,234,567
 ends 0 "1,234,567" show zone
@@ -255,7 +271,7 @@ ends 0 "need a start from a fresh zone, this one was imported" verify moved
 ends 0 "replay: 1 call compared" verify moved
 ends 3 "exists already" import moved day.image
 head -c 5695 day.image >short
-ends 3 "is no raw image: an image has 5696 bytes" import short.zone short
+ends 3 "is no raw image: an image has 5,696 bytes" import short.zone short
 { cat day.image; printf '\0'; } >long
 ends 3 "is no raw image" import long.zone long
 { printf '\377'; tail -c +2 day.image; } >damaged
