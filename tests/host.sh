@@ -112,7 +112,7 @@ ends 0 "seller 3 must lodge" due zone
 ends 0 "lodged" call zone lodge account 3 receipt 1
 ends 0 "settled" call zone morning-close
 ends 1 "it is the afternoon of day 1, its morning close is made" call zone morning-close
-ends 0 "first payment, buyer 4, seller 3, 3,299 fen" call zone first-payment account 3 receipt 1
+ends 0 "first paid, buyer 4, seller 3, 3,299 fen" call zone first-payment account 3 receipt 1
 ends 1 "no invoice waits for a confirmation" call zone confirm account 4 receipt 1
 ends 1 "the invoice is 4,125 fen, 4,124 fen are left to invoice" call zone invoice account 3 receipt 1 fen 4125
 ends 0 "invoiced" call zone invoice account 3 receipt 1 fen 100
@@ -195,7 +195,7 @@ holds "the head is the last hash" grep -q "$("$crz" verify day | sed -n 's/.*las
 ends 0 "sequence 34, 20" log day --head
 ends 0 "pay-ins 100,000,000 + received 0 - take-outs 0 - passed on 63,092,610 fen" statement day 11
 ends 0 "= free 36,907,390 + frozen 0 = 36,907,390 fen" statement day 11
-ends 0 "first payment, lot 1, to account 1" statement day 11
+ends 0 "first paid, lot 1, to account 1" statement day 11
 ends 0 "buyer default, lot 2, from account 13" statement day 2
 ends 0 "penalty, lot 3, to account 14" statement day 3
 ends 0 "penalty, lot 3, from account 3" statement day 14
@@ -277,6 +277,14 @@ ends 3 "is no raw image" import long.zone long
 { printf '\377'; tail -c +2 day.image; } >damaged
 ends 3 "is no valid image of a zone; no zone was made" import damaged.zone damaged
 holds "a bad image makes no zone" test ! -e short.zone -a ! -e long.zone -a ! -e damaged.zone
+
+# The last day of a zone, by an image of that day.
+python3 -c 'b = bytearray(open("day.image", "rb").read()); b[6:8] = (30000).to_bytes(2, "little"); open("last.image", "wb").write(b)'
+ends 0 "a zone with that image" import last last.image
+ends 0 "day 30,000, afternoon" show last
+ends 0 "no morning close comes: day 30,000 is the last" due last
+ends 1 "refused 5, sequence 1: not in this phase of the day: day 30,000 is the last day of a zone" call last day-close
+objects 'assert kinds["close"][0] == {"type": "close", "day": None, "today": False, "lots": 0}' due last
 
 # ── What the documents show ─────────────────────────────────────────────────────────────────────────
 mkdir readme guide guide/target
