@@ -260,8 +260,10 @@ static int take_hash(sqlite3_stmt *row, int column, struct hash *hash)
 
 static int take_number(sqlite3_stmt *row, int column, uint64_t *number)
 {
+    if (sqlite3_column_type(row, column) != SQLITE_INTEGER)
+        return -1;
     sqlite3_int64 value = sqlite3_column_int64(row, column);
-    if (sqlite3_column_type(row, column) != SQLITE_INTEGER || value < 0)
+    if (value < 0)
         return -1;
     *number = (uint64_t)value;
     return 0;
@@ -454,6 +456,29 @@ static int is_rollback_file(const char *path)
     return has == 0 || (has == 8 && (memcmp(first, mark, 8) == 0 || memcmp(first, zeros, 8) == 0));
 }
 
+static void silence(int stream)
+{
+    int nowhere = open("/dev/null", O_WRONLY | O_CLOEXEC);
+    if (nowhere < 0)
+        return;
+    dup2(nowhere, stream);
+    close(nowhere);
+}
+
+/* Whether answers or messages go into that file. They would damage what SQLite keeps there, and are held back. */
+static int is_output(const struct stat *file)
+{
+    struct stat is;
+    int found = 0;
+    for (int stream = STDOUT_FILENO; stream <= STDERR_FILENO; stream++) {
+        if (fstat(stream, &is) != 0 || is.st_dev != file->st_dev || is.st_ino != file->st_ino)
+            continue;
+        silence(stream);
+        found = 1;
+    }
+    return found;
+}
+
 /* SQLite would take files with these names for its own, and change or remove them. */
 static int judge_beside(const char *name, const char *path)
 {
@@ -463,7 +488,9 @@ static int judge_beside(const char *name, const char *path)
         return report(name, "its whole path is longer than %d bytes", LONGEST_PATH);
     for (size_t i = 0; i < ENDINGS; i++) {
         snprintf(beside, sizeof beside, "%s%s", path, endings[i]);
-        if (lstat(beside, &is) == 0 && (i != 0 || !S_ISREG(is.st_mode) || !is_rollback_file(beside)))
+        if (lstat(beside, &is) != 0)
+            continue;
+        if (i != 0 || !S_ISREG(is.st_mode) || is_output(&is) || !is_rollback_file(beside))
             return report(name, "%s does not belong to it; move that file away first", beside);
     }
     return 0;
@@ -550,6 +577,8 @@ static int open_judged(struct store *store, const char *name)
     struct stat is;
     if (judge_file(name, store->use, &is) != 0)
         return -1;
+    if (is_output(&is))
+        return report(name, "the program's output goes into the zone itself; choose another file for it");
     store->path = realpath(name, NULL);
     if (store->path == NULL)
         return report(name, "cannot be opened: %s", strerror(errno));

@@ -128,6 +128,16 @@ holds "a closed output: $(cat said)" grep -qF "standard output is closed" said
 "$crz" call out pay-in account 1 fen 5 1<out 2>said
 holds "an output that is open for reading ends with $?" test $? -eq 3
 holds "nothing was done" test "$(total out)" -eq 5
+cp out whole.copy
+"$crz" call out pay-in account 1 fen 5 >>out 2>said
+holds "an output into the zone ends with $?" test $? -eq 3
+holds "an output into the zone: $(cat said)" grep -qF "goes into the zone itself" said
+"$crz" call out pay-in account 1 fen 5 >>out 2>&1
+holds "output and messages into the zone end with $?" test $? -eq 3
+"$crz" call out pay-in account 1 fen 5 >out-journal 2>said
+holds "an output into SQLite's file ends with $?" test $? -eq 3
+rm out-journal
+holds "the zone stays" cmp -s out whole.copy
 "$crz" call out pay-in account 1 fen 5 <&- >said 2>&-
 holds "closed input and messages end with $?" test $? -eq 0
 holds "the answer is in its place" grep -qF "accepted, sequence 2" said
