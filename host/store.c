@@ -5,26 +5,25 @@
  * kill or a power cut leaves half written, the next program to open the zone takes back. synchronous=EXTRA has every
  * commit on the disk before it returns. At rest the zone is one file.
  */
-#define _GNU_SOURCE /* AT_EACCESS, realpath */
+#define _XOPEN_SOURCE 700 /* realpath */
 
 #include "store.h"
 
 #include <errno.h>
-#include <fcntl.h>
 #include <stdio.h>
 #include <stdlib.h>
 #include <sys/stat.h>
 #include <time.h>
-#include <unistd.h>
 
 #include <sqlite3.h>
 
 #include "digits.h"
 #include "file.h"
+#include "judge.h"
 #include "report.h"
 #include "signals.h"
 
-enum { APPLICATION = 0x63727a66, PAGE = 4096, HEADER = 100, BATCH = 64, LONGEST_PATH = 480 };
+enum { BATCH = 64 };
 
 enum statement { BEGIN, CANCEL, COMMIT, PAGES, READ_ZONE, READ_NEWEST, READ_LINES, ADD_LINE, PUT_ZONE, STATEMENTS };
 
@@ -50,11 +49,6 @@ static const char *const tables[] = {
 };
 
 enum { TABLES = sizeof tables / sizeof tables[0] };
-
-/* Names of SQLite's own files beside a zone; of these a zone has the first, while a program writes. */
-static const char *const endings[] = {"-journal", "-wal", "-shm"};
-
-enum { ENDINGS = sizeof endings / sizeof endings[0] };
 
 struct store {
     char *name; /* as the user gave it, for messages */
@@ -387,143 +381,6 @@ static int put_zone(struct store *store, const uint8_t *image, const struct hash
     return run(store, PUT_ZONE);
 }
 
-/* ── The file, before SQLite sees it ───────────────────────────────────────────────────────────── */
-
-static uint32_t big_endian(const uint8_t *at)
-{
-    return (uint32_t)at[0] << 24 | (uint32_t)at[1] << 16 | (uint32_t)at[2] << 8 | at[3];
-}
-
-/* Fields of SQLite's header that a zone never changes: page size, legacy format, no free pages, UTF-8, zeros. */
-static int header_ours(const uint8_t *header)
-{
-    static const uint8_t layout[] = {PAGE >> 8, PAGE & 0xff, 1, 1, 0, 64, 32, 32}, zeros[20] = {0};
-    return memcmp(header + 16, layout, sizeof layout) == 0 && memcmp(header + 32, zeros, 8) == 0
-           && big_endian(header + 44) == 4 && memcmp(header + 48, zeros, 8) == 0 && big_endian(header + 56) == 1
-           && big_endian(header + 64) == 0 && memcmp(header + 72, zeros, 20) == 0;
-}
-
-static int judge_header(const char *name, enum store_use use, const uint8_t *header, ssize_t has, off_t length)
-{
-    static const char magic[16] = "SQLite format 3";
-    if (has < 0)
-        return report(name, "cannot be read: %s", strerror(errno));
-    if (length == CRZ_IMAGE_LENGTH)
-        return report(name, "is no zone; if it is a raw image, 'crz import ZONE %s' makes a zone from it", name);
-    if (has < HEADER || memcmp(header, magic, sizeof magic) != 0 || big_endian(header + 68) != APPLICATION)
-        return report(name, "is no zone; name a file that 'crz new' or 'crz import' has made");
-    if (big_endian(header + 60) != STORE_FORMAT)
-        return report(
-            name, "is a zone of format %u; this program knows format %d", big_endian(header + 60), STORE_FORMAT);
-    return header_ours(header) ? 0 : store_damaged(name, use, "its header is changed");
-}
-
-static int judge_kind(const char *name, int file, struct stat *is)
-{
-    if (fstat(file, is) != 0)
-        return report(name, "cannot be read: %s", strerror(errno));
-    if (S_ISDIR(is->st_mode))
-        return report(name, "is a folder, not a zone");
-    return S_ISREG(is->st_mode) ? 0 : report(name, "is no regular file");
-}
-
-/* Closed again before SQLite opens the file: a second descriptor, closed later, would drop SQLite's locks. */
-static int judge_file(const char *name, enum store_use use, struct stat *is)
-{
-    uint8_t header[HEADER];
-    int file = open(name, O_RDONLY | O_NONBLOCK | O_NOCTTY | O_CLOEXEC);
-    if (file < 0 && errno == ENOENT)
-        return report(name, "there is no such file; 'crz new %s' makes a zone", name);
-    if (file < 0)
-        return report(name, "cannot be opened: %s", strerror(errno));
-    int bad = judge_kind(name, file, is);
-    if (!bad)
-        bad = judge_header(name, use, header, pread(file, header, HEADER, 0), is->st_size);
-    close(file);
-    return bad ? -1 : 0;
-}
-
-/* Whether a file is SQLite's rollback file, by its first bytes: its mark, zeros after a commit, or nothing. */
-static int is_rollback_file(const char *path)
-{
-    static const uint8_t mark[8] = {0xd9, 0xd5, 0x05, 0xf9, 0x20, 0xa1, 0x63, 0xd7}, zeros[8] = {0};
-    uint8_t first[8];
-    int file = open(path, O_RDONLY | O_NONBLOCK | O_NOCTTY | O_CLOEXEC);
-    if (file < 0)
-        return 1; /* SQLite meets the same error and says so */
-    ssize_t has = pread(file, first, sizeof first, 0);
-    close(file);
-    return has == 0 || (has == 8 && (memcmp(first, mark, 8) == 0 || memcmp(first, zeros, 8) == 0));
-}
-
-static void silence(int stream)
-{
-    int nowhere = open("/dev/null", O_WRONLY | O_CLOEXEC);
-    if (nowhere < 0)
-        return;
-    dup2(nowhere, stream);
-    close(nowhere);
-}
-
-/* Whether answers or messages go into that file. They would damage what SQLite keeps there, and are held back. */
-static int is_output(const struct stat *file)
-{
-    struct stat is;
-    int found = 0;
-    for (int stream = STDOUT_FILENO; stream <= STDERR_FILENO; stream++) {
-        if (fstat(stream, &is) != 0 || is.st_dev != file->st_dev || is.st_ino != file->st_ino)
-            continue;
-        silence(stream);
-        found = 1;
-    }
-    return found;
-}
-
-/* SQLite would take files with these names for its own, and change or remove them. */
-static int judge_beside(const char *name, const char *path)
-{
-    char beside[LONGEST_PATH + 16];
-    struct stat is;
-    if (strlen(path) > LONGEST_PATH)
-        return report(name, "its whole path is longer than %d bytes", LONGEST_PATH);
-    for (size_t i = 0; i < ENDINGS; i++) {
-        snprintf(beside, sizeof beside, "%s%s", path, endings[i]);
-        if (lstat(beside, &is) != 0)
-            continue;
-        if (i != 0 || !S_ISREG(is.st_mode) || is_output(&is) || !is_rollback_file(beside))
-            return report(name, "%s does not belong to it; move that file away first", beside);
-    }
-    return 0;
-}
-
-/* SQLite makes its rollback file in the zone's folder, and makes its name durable there. */
-static int judge_folder(const char *name, const char *path)
-{
-    int folder = file_folder(path);
-    if (folder < 0)
-        return -1;
-    int bad = faccessat(folder, ".", W_OK | X_OK, AT_EACCESS) != 0;
-    int why = errno;
-    close(folder);
-    if (!bad)
-        return 0;
-    return report(name, "its folder cannot be written: %s; SQLite keeps a file there during a call", strerror(why));
-}
-
-/* The superuser may write every file; a file that nobody may write is meant to stay as it is. */
-static int judge_writing(const char *name, const char *path, const struct stat *is)
-{
-    if ((is->st_mode & (S_IWUSR | S_IWGRP | S_IWOTH)) == 0)
-        return report(
-            name, "nobody may write it (mode %03o); 'chmod u+w %s' allows it", (unsigned)is->st_mode & 07777, name);
-    if (is->st_nlink > 1)
-        return report(name, "has %lu names (hard links), which SQLite cannot keep apart; remove the others",
-            (unsigned long)is->st_nlink);
-    if (faccessat(AT_FDCWD, path, W_OK, AT_EACCESS) != 0)
-        return report(name, "cannot be written: %s", strerror(errno));
-    return judge_folder(name, path);
-}
-
 /* ── Opening and closing ───────────────────────────────────────────────────────────────────────── */
 
 /* Rows of the schema that are one of the tables, in their order; any other row makes it -1. */
@@ -577,8 +434,6 @@ static int open_judged(struct store *store, const char *name)
     struct stat is;
     if (judge_file(name, store->use, &is) != 0)
         return -1;
-    if (is_output(&is))
-        return report(name, "the program's output goes into the zone itself; choose another file for it");
     store->path = realpath(name, NULL);
     if (store->path == NULL)
         return report(name, "cannot be opened: %s", strerror(errno));
@@ -634,8 +489,8 @@ static int fill(struct store *store, const uint8_t *image, const struct line *st
 {
     char ids[128];
     sqlite3_stmt *row = NULL;
-    snprintf(ids, sizeof ids, "PRAGMA page_size = %d; PRAGMA application_id = %d; PRAGMA user_version = %d", PAGE,
-        APPLICATION, STORE_FORMAT);
+    snprintf(ids, sizeof ids, "PRAGMA page_size = %d; PRAGMA application_id = %d; PRAGMA user_version = %d", JUDGE_PAGE,
+        JUDGE_APPLICATION, STORE_FORMAT);
     if (execute(store, ids) != 0 || execute(store, tables[0]) != 0 || execute(store, tables[1]) != 0)
         return -1;
     int code = sqlite3_prepare_v2(store->base, "INSERT INTO zone VALUES (1, ?1, ?2)", -1, &row, NULL);
@@ -647,34 +502,6 @@ static int fill(struct store *store, const uint8_t *image, const struct line *st
         code = sqlite3_step(row);
     sqlite3_finalize(row);
     return code == SQLITE_DONE ? add_line(store, start) : failed(store);
-}
-
-/* SQLite takes whole paths up to a length; a zone that nobody could open is not made. */
-static int path_fits(const char *path)
-{
-    char here[LONGEST_PATH + 1];
-    if (path[0] == '/')
-        return strlen(path) <= LONGEST_PATH;
-    return getcwd(here, sizeof here) != NULL && strlen(here) + 1 + strlen(path) <= LONGEST_PATH;
-}
-
-/* What is left of another zone would be taken for changes of this one, and a name like that for a file of SQLite's. */
-static int judge_name(const char *path)
-{
-    char beside[LONGEST_PATH + 16];
-    struct stat is;
-    size_t length = strlen(path);
-    if (!path_fits(path))
-        return report(path, "its whole path is longer than %d bytes", LONGEST_PATH);
-    for (size_t i = 0; i < ENDINGS; i++) {
-        size_t end = strlen(endings[i]);
-        if (length >= end && strcmp(path + length - end, endings[i]) == 0)
-            return report(path, "names that end in %s are SQLite's own; choose another name", endings[i]);
-        snprintf(beside, sizeof beside, "%s%s", path, endings[i]);
-        if (lstat(beside, &is) == 0)
-            return report(path, "%s is there, left of another zone perhaps; move that file away first", beside);
-    }
-    return 0;
 }
 
 /* The file's bytes, made in memory; NULL after a message. */
@@ -721,7 +548,7 @@ static int judge_place(struct store *store)
         return failed_at(store, code);
     if (!in_place(store, &is))
         return moved(store);
-    return is.st_size == pages * PAGE ? 0 : damaged(store, "it has another length than its header says");
+    return is.st_size == pages * JUDGE_PAGE ? 0 : damaged(store, "it has another length than its header says");
 }
 
 void store_cancel(struct store *store)
