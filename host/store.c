@@ -168,7 +168,7 @@ static int try_again(void *context, int tries)
 {
     struct store *store = context;
     double seconds = seconds_since(&store->since);
-    struct timespec pause = {0, 500000 + 500000 * (tries % 7)}; /* others wait with other pauses */
+    struct timespec pause = {0, 300000 + 300000 * (tries % 5)}; /* others wait with other pauses */
     if (seconds >= store->wait || signals_came())
         return 0;
     if (seconds >= 1 && !store->told) {
@@ -179,10 +179,10 @@ static int try_again(void *context, int tries)
     return 1;
 }
 
-/* Others look for the lock every few milliseconds: who makes call after call stands back for one such look. */
+/* Others look for the lock every 1.5 ms or more often: who makes call after call stands back for one such look. */
 static void give_way(struct store *store)
 {
-    const struct timespec pause = {0, 5000000};
+    const struct timespec pause = {0, 2000000};
     if (seconds_since(&store->turn) < 0.05)
         return;
     nanosleep(&pause, NULL);
