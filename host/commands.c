@@ -161,11 +161,14 @@ static void show_played(const struct playing *p)
 static enum status play(struct playing *p)
 {
     enum status status = play_calls(p);
-    if (status <= STATUS_REFUSED)
+    if (status <= STATUS_REFUSED) {
         show_played(p);
-    else
-        report(store_path(p->store), "of the script's %s call%s %s were made", grouped(p->script->count).text,
-            plural(p->script->count), grouped(p->played.made).text);
+        if (shown() || p->played.made == 0)
+            return status;
+        status = STATUS_NOT_SHOWN;
+    }
+    report(store_path(p->store), "of the script's %s call%s %s were made", grouped(p->script->count).text,
+        plural(p->script->count), grouped(p->played.made).text);
     return status;
 }
 

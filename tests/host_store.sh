@@ -147,6 +147,13 @@ holds "a closed input ends with $status: $(cat said)" test "$status" -eq 3
 script 3 | "$crz" play out - >/dev/full 2>said
 holds "a script to a full device ends with $?" test $? -eq 3
 holds "nothing of the script was made" test "$(total out)" -eq 10
+# answers that fit exactly, and a last line that does not: calls were made
+"$crz" new exact >/dev/null
+head -c $((40960 - 68)) /dev/zero >filled
+script 1 | (ulimit -f 40; "$crz" play exact - >>filled 2>said)
+status=$?
+holds "a last line that is not shown ends with $status: $(cat said)" test "$status" -eq 4
+holds "a last line that is not shown: $(cat said)" grep -qF "of the script's 1 call 1 were made" said
 { script 50; sleep 0.2; } | { "$crz" play out - 2>said; echo $? >status; } | head -n 1 >/dev/null
 holds "a script into a closed pipe ends with $(cat status)" grep -q '[34]' status
 holds "a call into a closed pipe is told" grep -qF "of the script's 50 calls" said
