@@ -470,6 +470,28 @@ else
     echo "no shared objects can be built: failing syncs are not tried"
 fi
 
+# ── A disk that knows no files without a name ───────────────────────────────────────────────────────
+cat >named.c <<'END'
+#include <errno.h>
+int openat(int folder, const char *path, int flags, ...) /* the program has no other use for it */
+{
+    (void)folder, (void)path, (void)flags;
+    errno = EOPNOTSUPP;
+    return -1;
+}
+END
+if gcc -shared -fPIC -o named.so named.c 2>/dev/null; then
+    LD_PRELOAD=./named.so "$fast" new named >said 2>&1
+    holds "a new zone there: $(cat said)" grep -qF "named: a fresh zone" said
+    LD_PRELOAD=./named.so "$fast" new named >said 2>&1
+    holds "a zone that exists there: $(cat said)" grep -qF "exists already" said
+    LD_PRELOAD=./named.so "$fast" export named named.image >said 2>&1
+    holds "an image there: $(cat said)" test "$(stat -c %s named.image)" -eq 5696
+    whole named
+    holds "the zone is whole" test $? -eq 0
+    holds "no other file is left" test "$(echo named*)" = "named named.c named.image named.so"
+fi
+
 # ── Progress ────────────────────────────────────────────────────────────────────────────────────────
 cat >terminal.py <<'END'
 import os, pty, select, subprocess, sys, time
