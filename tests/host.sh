@@ -212,6 +212,19 @@ printf 'morning-close\n' | "$crz" play noon - >/dev/null
 ends 0 "seller 3 owes 5,000,000 fen to buyer 14" due noon
 ends 0 "(tomorrow: today's is made), works 1 lot" due noon
 
+# ── A desk with books of its own ────────────────────────────────────────────────────────────────────
+# One of the two runs ends in a morning, the other in an afternoon, both with lots that are due.
+for seed in 10 7; do
+    "$crz" new "desk.$seed" >/dev/null
+    python3 "$here/tests/host_desk.py" "$crz" "desk.$seed" "$seed" 900 >said
+    status=$?
+    cat said
+    holds "a desk with books of its own ends with $status" test "$status" -eq 0
+    last=$(tail -n 1 said)
+    passed=$((passed + ${last%% *}))
+    ends 0 "replay: 900 calls compared" verify "desk.$seed"
+done
+
 # ── Objects for programs ────────────────────────────────────────────────────────────────────────────
 cat >objects.py <<'END'
 import json, sys
