@@ -195,8 +195,8 @@ enum status command_play(const struct request *request)
     int bad = script_read(&script, request->words[1]);
     enum status status = bad < 0 ? STATUS_NOTHING_DONE : STATUS_BAD_WORDS;
     if (bad > 0)
-        report(request->words[1], "%d bad line%s; no call was made; 'crz help call' lists every kind", bad,
-            plural((uint64_t)bad));
+        report(request->words[1], "%s bad line%s; no call was made; 'crz help call' lists every kind",
+            grouped((uint64_t)bad).text, plural((uint64_t)bad));
     if (bad == 0)
         status = play_script(request, &script);
     script_free(&script);
