@@ -172,13 +172,20 @@ static enum status choose(int count, char **words)
     return asks_help(word) ? help(count > 1 ? words[1] : NULL) : no_command(word);
 }
 
+/* What the program ends with where the rest of its output goes out, or not. */
+static enum status flushed(enum status status)
+{
+    if ((fflush(stdout) == 0 && !ferror(stdout)) || status > STATUS_REFUSED)
+        return status;
+    report(NULL, "standard output cannot be written: %s", strerror(errno));
+    return STATUS_NOTHING_DONE;
+}
+
 int main(int argc, char **argv)
 {
     if (!output_open())
         return STATUS_NOTHING_DONE;
-    enum status status = choose(argc - 1, argv + 1);
-    if ((fflush(stdout) == 0 && !ferror(stdout)) || status > STATUS_REFUSED)
-        return (int)status;
-    report(NULL, "standard output cannot be written: %s", strerror(errno));
-    return STATUS_NOTHING_DONE;
+    enum status status = flushed(choose(argc - 1, argv + 1));
+    signals_end();
+    return (int)status;
 }

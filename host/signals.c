@@ -39,3 +39,11 @@ int signals_came(void)
 {
     return came != 0;
 }
+
+void signals_end(void)
+{
+    if (came == 0)
+        return;
+    signal(came, SIG_DFL);
+    raise(came);
+}

@@ -11,4 +11,7 @@ void signals_catch(void);
 /* Whether the program was asked to end. */
 int signals_came(void);
 
+/* Ends by the signal that came, if one did: a shell then ends its loop too. */
+void signals_end(void);
+
 #endif

@@ -204,7 +204,7 @@ kill -KILL "$holder"
 ends 0 "total 5 fen" show held
 
 # ── Signals ─────────────────────────────────────────────────────────────────────────────────────────
-# A script that is asked to end finishes its call, says how far it came and leaves one file.
+# A script that is asked to end finishes its call, says how far it came, leaves one file and ends by the signal.
 script 20000 >many
 for name in INT TERM HUP; do
     "$crz" new "signal.$name" >/dev/null
@@ -214,8 +214,8 @@ for name in INT TERM HUP; do
     for _ in $(seq 1000); do [ -s said ] && break; sleep 0.01; done
     sleep 0.1
     kill -s "$name" "$player"
-    wait "$player"
-    holds "a script that gets $name ends with $?" test $? -eq 3
+    wait "$player" 2>/dev/null
+    holds "a script that gets $name ends with $?" test $? -eq $((128 + $(kill -l "$name")))
     told=$(grep -c '^accepted' said)
     holds "$name: $(tail -n 1 said)" grep -qF "of the script's 20,000 calls $(sed ':a;s/\B[0-9]\{3\}\>/,&/;ta' <<<"$told") were made" said
     holds "$name: what was told is there" test "$(total "signal.$name")" -eq "$told"
@@ -227,8 +227,8 @@ waiting=$!
 sleep 0.5
 kill -s TERM "$waiting"
 wait "$waiting"
-holds "a call that waits and gets TERM ends with $?" test $? -eq 3
-holds "a call that waits and gets TERM: $(cat said)" grep -qF "the program was asked to end" said
+holds "a call that waits and gets TERM ends with $?" test $? -eq 143
+holds "a call that waits and gets TERM: $(cat said)" grep -qF "held: the call was not made" said
 kill -KILL "$holder"
 ends 0 "total 5 fen" show held
 
