@@ -23,7 +23,7 @@ run: host
 	@target/crz verify target/day.crz
 
 need:
-	@tools/need
+	@tools/need run
 
 # the archive for C, proved
 lib: need
@@ -45,9 +45,11 @@ install: host
 	install -m 644 host/crz.1 $(DESTDIR)$(PREFIX)/share/man/man1/crz.1
 
 bench: lib
+	@tools/need bench
 	@tools/bench
 
-test: need
+test:
+	@tools/need test
 	@tools/test
 
 # after `rt ci`: it reads the logs of the must-fail edits

@@ -14,6 +14,7 @@
 #include "print.h"
 #include "progress.h"
 #include "script.h"
+#include "signals.h"
 #include "statement.h"
 #include "verify.h"
 
@@ -46,9 +47,8 @@ static enum status make_call(struct store *store, const uint8_t *call, const str
     if (shown())
         return status;
     report(store_path(store),
-        "call %" PRIu64 " was made, but its answer could not be shown: %s; 'crz log --last 1' shows "
-        "it",
-        made.line.sequence, strerror(errno));
+        "call %" PRIu64 " was made, but its answer could not be shown: %s; 'crz log %s --last 1' shows it",
+        made.line.sequence, strerror(errno), store_path(store));
     return STATUS_NOT_SHOWN;
 }
 
@@ -62,6 +62,7 @@ enum status command_call(const struct request *request)
         report(NULL, "%s; 'crz help call' lists every kind with its fields", message);
         return STATUS_BAD_WORDS;
     }
+    signals_catch();
     struct store *store = store_open(path, STORE_WRITE, option_wait(request));
     enum status status = STATUS_NOTHING_DONE;
     if (store != NULL)
@@ -114,16 +115,26 @@ static enum status play_call(struct playing *p)
     return status;
 }
 
+/* Whether the script goes on after a call that ended with `status`. */
+static int goes_on(const struct playing *p, enum status status)
+{
+    return p->played.made < p->script->count && status <= (p->stop ? STATUS_ACCEPTED : STATUS_REFUSED);
+}
+
 /* A refused call does not end the script unless --stop is given; trouble with the zone or the output does. */
 static enum status play_calls(struct playing *p)
 {
     struct progress progress = progress_start(isatty(STDOUT_FILENO) ? NULL : "play", p->script->count);
     enum status status = STATUS_ACCEPTED;
-    while (p->played.made < p->script->count && status <= (p->stop ? STATUS_ACCEPTED : STATUS_REFUSED)) {
+    while (goes_on(p, status) && !signals_came()) {
         status = play_call(p);
         progress_show(&progress, p->played.made);
     }
-    progress_end(&progress);
+    progress_clear();
+    if (goes_on(p, status)) {
+        report(store_path(p->store), "the program was asked to end");
+        return STATUS_NOTHING_DONE;
+    }
     return status > STATUS_REFUSED ? status : p->played.refused > 0 ? STATUS_REFUSED : STATUS_ACCEPTED;
 }
 
@@ -150,11 +161,14 @@ static void show_played(const struct playing *p)
 static enum status play(struct playing *p)
 {
     enum status status = play_calls(p);
-    if (status <= STATUS_REFUSED)
+    if (status <= STATUS_REFUSED) {
         show_played(p);
-    else
-        report(store_path(p->store), "of the script's %zu call%s %zu were made", p->script->count,
-            plural(p->script->count), p->played.made);
+        if (shown() || p->played.made == 0)
+            return status;
+        status = STATUS_NOT_SHOWN;
+    }
+    report(store_path(p->store), "of the script's %s call%s %s were made", grouped(p->script->count).text,
+        plural(p->script->count), grouped(p->played.made).text);
     return status;
 }
 
@@ -164,6 +178,7 @@ static enum status play_script(const struct request *request, const struct scrip
         .expect = option_expect(request),
         .json = option_given(request, OPTION_JSON),
         .stop = option_given(request, OPTION_STOP)};
+    signals_catch();
     p.store = store_open(request->words[0], STORE_WRITE, option_wait(request));
     if (p.store == NULL) {
         report(request->words[0], "no call was made");
@@ -180,36 +195,38 @@ enum status command_play(const struct request *request)
     int bad = script_read(&script, request->words[1]);
     enum status status = bad < 0 ? STATUS_NOTHING_DONE : STATUS_BAD_WORDS;
     if (bad > 0)
-        report(request->words[1], "%d bad line%s; no call was made; 'crz help call' lists every kind", bad,
-            plural((uint64_t)bad));
+        report(request->words[1], "%s bad line%s; no call was made; 'crz help call' lists every kind",
+            grouped((uint64_t)bad).text, plural((uint64_t)bad));
     if (bad == 0)
         status = play_script(request, &script);
     script_free(&script);
     return status;
 }
 
-/* ── New zones ─────────────────────────────────────────────────────────────────────────────────── */
+/* ── New files ─────────────────────────────────────────────────────────────────────────────────── */
 
-/* The sequence number that a new zone begins with, for --expect. */
-static enum status show_new(enum status status, const char *path, const char *what)
+/* What was made, and its sequence number: a new zone's is what --expect asks for next. */
+static enum status show_file(const char *path, const char *what, uint64_t sequence)
 {
-    if (status != STATUS_ACCEPTED)
-        return status;
-    printf("%s: %s, sequence 0\n", path, what);
+    printf("%s: %s sequence %" PRIu64 "\n", path, what, sequence);
     if (shown())
-        return status;
-    report(path, "the zone was made, but that could not be shown: %s", strerror(errno));
+        return STATUS_ACCEPTED;
+    report(path, "the file was made, but that could not be shown: %s", strerror(errno));
     return STATUS_NOT_SHOWN;
 }
 
 enum status command_new(const struct request *request)
 {
-    return show_new(zone_new(request->words[0]), request->words[0], "a fresh zone");
+    const char *path = request->words[0];
+    enum status status = zone_new(path);
+    return status == STATUS_ACCEPTED ? show_file(path, "a fresh zone,", 0) : status;
 }
 
 enum status command_import(const struct request *request)
 {
-    return show_new(zone_import(request->words[0], request->words[1]), request->words[0], "a zone with that image");
+    const char *path = request->words[0];
+    enum status status = zone_import(path, request->words[1]);
+    return status == STATUS_ACCEPTED ? show_file(path, "a zone with that image,", 0) : status;
 }
 
 /* ── Reading ───────────────────────────────────────────────────────────────────────────────────── */
@@ -224,36 +241,34 @@ static struct store *open_read(const struct request *request, struct newest *new
     return NULL;
 }
 
-/* The image alone. */
-static int read_image(const struct request *request, uint8_t image[CRZ_IMAGE_LENGTH])
+/* The newest state alone. */
+static int read_state(const struct request *request, struct newest *newest)
 {
-    static struct newest newest;
-    struct store *store = open_read(request, &newest);
+    struct store *store = open_read(request, newest);
     if (store == NULL)
         return -1;
     store_close(store);
-    memcpy(image, newest.kept.image, CRZ_IMAGE_LENGTH);
     return 0;
 }
 
 enum status command_show(const struct request *request)
 {
-    uint8_t image[CRZ_IMAGE_LENGTH];
-    if (read_image(request, image) != 0)
+    static struct newest newest;
+    if (read_state(request, &newest) != 0)
         return STATUS_NOTHING_DONE;
     if (option_given(request, OPTION_JSON))
-        json_zone(image);
+        json_zone(newest.kept.image);
     else
-        print_zone(image);
+        print_zone(newest.kept.image);
     return STATUS_ACCEPTED;
 }
 
 enum status command_due(const struct request *request)
 {
-    uint8_t image[CRZ_IMAGE_LENGTH];
-    if (read_image(request, image) != 0)
+    static struct newest newest;
+    if (read_state(request, &newest) != 0)
         return STATUS_NOTHING_DONE;
-    print_due(image, option_given(request, OPTION_JSON));
+    print_due(newest.kept.image, option_given(request, OPTION_JSON));
     return STATUS_ACCEPTED;
 }
 
@@ -261,12 +276,9 @@ enum status command_export(const struct request *request)
 {
     static struct newest newest;
     const char *path = request->words[1];
-    struct store *store = open_read(request, &newest);
-    store_close(store);
-    if (store == NULL || file_create(path, newest.kept.image, CRZ_IMAGE_LENGTH) != 0)
+    if (read_state(request, &newest) != 0 || file_create(path, newest.kept.image, CRZ_IMAGE_LENGTH) != 0)
         return STATUS_NOTHING_DONE;
-    printf("%s: the image after sequence %" PRIu64 "\n", path, newest.last.sequence);
-    return STATUS_ACCEPTED;
+    return show_file(path, "the image after", newest.last.sequence);
 }
 
 enum status command_verify(const struct request *request)
@@ -285,7 +297,7 @@ enum status command_statement(const struct request *request)
     if (fault == NULL && (account < 1 || account > CRZ_ACCOUNT_COUNT))
         fault = "is not in 1 to 96";
     if (fault != NULL) {
-        report(NULL, "statement: account '%s' %s", request->words[1], fault);
+        report(NULL, "statement: account %s %s", quoted(request->words[1]).text, fault);
         return STATUS_BAD_WORDS;
     }
     struct store *store = open_read(request, &newest);
@@ -392,9 +404,22 @@ static int list_lines(struct store *store, const struct request *request, uint64
     return store_walk(store, l.first, end, show_line, &l) < 0 ? -1 : 0;
 }
 
+/* The head is of the whole journal. */
+static int head_alone(const struct request *request)
+{
+    int chosen = option_given(request, OPTION_ACCOUNT) || option_given(request, OPTION_LOT)
+                 || option_given(request, OPTION_LAST);
+    if (!option_given(request, OPTION_HEAD) || !chosen)
+        return 1;
+    report(NULL, "log: --head does not go together with --account, --lot or --last");
+    return 0;
+}
+
 enum status command_log(const struct request *request)
 {
     static struct newest newest;
+    if (!head_alone(request))
+        return STATUS_BAD_WORDS;
     struct store *store = open_read(request, &newest);
     int bad = store == NULL;
     if (!bad && option_given(request, OPTION_HEAD))

@@ -50,7 +50,7 @@ static int comma_fits(const char *comma)
 static const char *plain_digits(const char *word, char *plain, size_t room)
 {
     size_t length = 0, first = strcspn(word, ",");
-    if (word[first] == ',' && (first == 0 || first > 3))
+    if (word[first] == ',' && (first == 0 || first > 3 || word[0] == '0'))
         return "has its thousands grouped in another way than 1,234,567";
     for (const char *c = word; *c != '\0'; c++) {
         if (*c == ',' && !comma_fits(c))

@@ -10,6 +10,7 @@
 #include <sys/stat.h>
 #include <unistd.h>
 
+#include "digits.h"
 #include "report.h"
 
 static char *folder_of(const char *path)
@@ -166,7 +167,7 @@ int file_read_image(const char *path, uint8_t image[CRZ_IMAGE_LENGTH])
     if (have < 0)
         return report(path, "cannot be read: %s", strerror(why));
     if (have != CRZ_IMAGE_LENGTH)
-        return report(path, "is no raw image: an image has %d bytes", CRZ_IMAGE_LENGTH);
+        return report(path, "is no raw image: an image has %s bytes", grouped(CRZ_IMAGE_LENGTH).text);
     memcpy(image, bytes, CRZ_IMAGE_LENGTH);
     return 0;
 }

@@ -82,7 +82,7 @@ void print_usage(FILE *to)
           "crz due FILE                 what the next morning close works\n"
           "crz import FILE IMAGE        a new zone from a raw image\n"
           "crz export FILE IMAGE        the raw image into a new file\n"
-          "crz help COMMAND             more on a command; 'crz help call' lists the kinds of call\n"
+          "crz help WORD                more on a command or a kind; 'crz help call' lists the kinds of call\n"
           "\n"
           "Ends with 0 accepted, 1 refused, 2 bad words, 3 nothing done (file, format, lock, disk),\n"
           "4 made but the answer could not be shown.\n",
@@ -94,13 +94,25 @@ void print_version(void)
     printf("crz %s, zone format %d, %s\n", CRZ_VERSION, STORE_FORMAT, store_engine());
 }
 
-void print_help(const char *command)
+static void print_call_help(void)
 {
-    if (command == NULL)
+    print_kinds();
+    puts("\nThe fields:");
+    print_ranges(~0u);
+}
+
+void print_help(const char *word)
+{
+    const struct kind_words *kind = word == NULL ? NULL : kind_named(word);
+    if (word == NULL)
         print_usage(stdout);
-    for (size_t i = 0; command != NULL && i < HELPS; i++)
-        if (strcmp(helps[i].command, command) == 0)
+    for (size_t i = 0; word != NULL && i < HELPS; i++)
+        if (strcmp(helps[i].command, word) == 0)
             fputs(helps[i].text, stdout);
-    if (command != NULL && strcmp(command, "call") == 0)
-        print_kinds();
+    if (word != NULL && strcmp(word, "call") == 0)
+        print_call_help();
+    if (kind != NULL) {
+        print_kind(kind);
+        print_ranges(kind->takes);
+    }
 }

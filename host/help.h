@@ -7,7 +7,7 @@
 void print_usage(FILE *to);
 void print_version(void);
 
-/* NULL for the whole program. */
-void print_help(const char *command);
+/* Of a command or a kind of call, NULL for the whole program. */
+void print_help(const char *word);
 
 #endif

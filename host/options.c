@@ -23,11 +23,6 @@ static const struct option_words options[OPTIONS] = {
     [OPTION_VERSION] = {"--version", 0, 0},
 };
 
-const char *option_word(enum option option)
-{
-    return options[option].word;
-}
-
 int option_given(const struct request *request, enum option option)
 {
     return (request->given & 1u << option) != 0;
@@ -61,7 +56,8 @@ static int no_option(const char *command, unsigned allowed, const char *word)
         if (allowed & 1u << o)
             nearest_try(&nearest, options[o].word);
     nearest_words(&nearest, hint, sizeof hint);
-    return report(NULL, "%s: '%s' is no option of it%s; 'crz help %s' lists them", command, word, hint, command);
+    return report(
+        NULL, "%s: %s is no option of it%s; 'crz help %s' lists them", command, quoted(word).text, hint, command);
 }
 
 static int take_value(struct request *request, const char *command, unsigned o, const char *value)
@@ -69,9 +65,9 @@ static int take_value(struct request *request, const char *command, unsigned o, 
     int64_t number = 0;
     const char *fault = digits_read(value, &number);
     if (fault != NULL)
-        return report(NULL, "%s: %s: '%s' %s", command, options[o].word, value, fault);
+        return report(NULL, "%s: %s: %s %s", command, options[o].word, quoted(value).text, fault);
     if (number < options[o].least || number > options[o].most)
-        return report(NULL, "%s: %s: %s is not in %s to %s", command, options[o].word, value,
+        return report(NULL, "%s: %s: %s is not in %s to %s", command, options[o].word, grouped_signed(number).text,
             grouped_signed(options[o].least).text, grouped_signed(options[o].most).text);
     request->numbers[o] = (uint64_t)number;
     return 0;

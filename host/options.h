@@ -33,6 +33,5 @@ int options_read(struct request *request, const char *command, unsigned allowed,
 int option_given(const struct request *request, enum option option);
 unsigned option_wait(const struct request *request);
 struct expect option_expect(const struct request *request);
-const char *option_word(enum option option);
 
 #endif

@@ -8,6 +8,8 @@
 
 #include "digits.h"
 
+static int on_screen;
+
 static double now(void)
 {
     struct timespec t = {0};
@@ -17,7 +19,7 @@ static double now(void)
 
 struct progress progress_start(const char *what, uint64_t total)
 {
-    return (struct progress){isatty(STDERR_FILENO) ? what : NULL, total, now() + 1, 0};
+    return (struct progress){isatty(STDERR_FILENO) ? what : NULL, total, now() + 1};
 }
 
 void progress_show(struct progress *progress, uint64_t done)
@@ -25,13 +27,13 @@ void progress_show(struct progress *progress, uint64_t done)
     if (progress->what == NULL || now() < progress->next)
         return;
     progress->next = now() + 0.2;
-    progress->shown = 1;
+    on_screen = 1;
     fprintf(stderr, "\r%s: %s of %s calls ", progress->what, grouped(done).text, grouped(progress->total).text);
 }
 
-void progress_end(struct progress *progress)
+void progress_clear(void)
 {
-    if (progress->shown)
+    if (on_screen)
         fprintf(stderr, "\r%*s\r", 72, "");
-    progress->shown = 0;
+    on_screen = 0;
 }

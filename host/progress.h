@@ -8,11 +8,12 @@ struct progress {
     const char *what; /* NULL where nothing is shown */
     uint64_t total;
     double next; /* when to show the next line, in seconds */
-    int shown;
 };
 
 struct progress progress_start(const char *what, uint64_t total);
 void progress_show(struct progress *progress, uint64_t done);
-void progress_end(struct progress *progress);
+
+/* Takes the line away, at the end or before a message. */
+void progress_clear(void);
 
 #endif

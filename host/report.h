@@ -19,4 +19,11 @@ enum status {
 /* Prints "crz: FILE: message", without the file where it is NULL. Returns -1, for a caller that ends with it. */
 int report(const char *file, const char *format, ...) REPORT_FORMAT(2, 3);
 
+struct quoted {
+    char text[64];
+};
+
+/* A user's word for a message: in quotes, a long one cut, and nothing in it that a terminal would obey. */
+struct quoted quoted(const char *word);
+
 #endif

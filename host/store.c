@@ -5,25 +5,25 @@
  * kill or a power cut leaves half written, the next program to open the zone takes back. synchronous=EXTRA has every
  * commit on the disk before it returns. At rest the zone is one file.
  */
-#define _GNU_SOURCE /* AT_EACCESS, realpath */
+#define _XOPEN_SOURCE 700 /* realpath */
 
 #include "store.h"
 
 #include <errno.h>
-#include <fcntl.h>
 #include <stdio.h>
 #include <stdlib.h>
 #include <sys/stat.h>
 #include <time.h>
-#include <unistd.h>
 
 #include <sqlite3.h>
 
 #include "digits.h"
 #include "file.h"
+#include "judge.h"
 #include "report.h"
+#include "signals.h"
 
-enum { APPLICATION = 0x63727a66, PAGE = 4096, HEADER = 100, BATCH = 64, LONGEST_PATH = 480 };
+enum { BATCH = 64 };
 
 enum statement { BEGIN, CANCEL, COMMIT, PAGES, READ_ZONE, READ_NEWEST, READ_LINES, ADD_LINE, PUT_ZONE, STATEMENTS };
 
@@ -50,11 +50,6 @@ static const char *const tables[] = {
 
 enum { TABLES = sizeof tables / sizeof tables[0] };
 
-/* Names of SQLite's own files beside a zone; of these a zone has the first, while a program writes. */
-static const char *const endings[] = {"-journal", "-wal", "-shm"};
-
-enum { ENDINGS = sizeof endings / sizeof endings[0] };
-
 struct store {
     char *name; /* as the user gave it, for messages */
     char *path; /* no link, so that all names of a zone share one rollback journal */
@@ -63,6 +58,7 @@ struct store {
     enum store_use use;
     unsigned wait;
     struct timespec since; /* when the present wait began */
+    struct timespec turn;  /* when others were last let in */
     int told;              /* that a wait goes on */
     dev_t device;
     ino_t file;
@@ -87,7 +83,7 @@ int store_damaged(const char *name, enum store_use use, const char *what)
 {
     if (use == STORE_VERIFY)
         return report(name, "damaged: %s; go back to a copy that verifies", what);
-    return report(name, "damaged: %s; 'crz verify' looks for the first bad line", what);
+    return report(name, "damaged: %s; 'crz verify %s' looks for the first bad line", what, name);
 }
 
 static int damaged(const struct store *store, const char *what)
@@ -106,6 +102,26 @@ static int moved(const struct store *store)
     return report(store->name, "the file was moved or replaced while in use; nothing more is done");
 }
 
+/* The lock did not come free in time. */
+static int busy(const struct store *store)
+{
+    if (signals_came())
+        return report(store->name, "in use by another program; the program was asked to end before that was over");
+    return report(store->name, "in use by another program; gave up after %u second%s, --wait SECONDS waits longer",
+        store->wait, plural(store->wait));
+}
+
+static int disk_failed(const struct store *store, int code, const char *words)
+{
+    if (code == SQLITE_IOERR_DELETE)
+        return report(store->name,
+            "a program was cut off while it wrote, and the file %s-journal that it left cannot be removed: %s; open "
+            "the "
+            "zone once as the user whose file that is",
+            store->path, words);
+    return report(store->name, "the disk reports an error: %s", words);
+}
+
 static int failed_at(struct store *store, int code)
 {
     const char *name = store->name;
@@ -115,9 +131,7 @@ static int failed_at(struct store *store, int code)
     if (store->file != 0 && !in_place(store, &is))
         return moved(store);
     switch (code & 0xff) {
-    case SQLITE_BUSY:
-        return report(name, "in use by another program; gave up after %u second%s, --wait SECONDS waits longer",
-            store->wait, plural(store->wait));
+    case SQLITE_BUSY: return busy(store);
     case SQLITE_FULL: return report(name, "the disk is full; make room and try again");
     case SQLITE_CORRUPT:
     case SQLITE_NOTADB: return damaged(store, "the file is not laid out as a store");
@@ -125,7 +139,7 @@ static int failed_at(struct store *store, int code)
         return report(name, "a program was cut off while it wrote; open the zone once as a user who may write it");
     case SQLITE_CANTOPEN:
         return report(name, "it or the file %s-journal beside it cannot be opened: %s", store->path, words);
-    case SQLITE_IOERR: return report(name, "the disk reports an error: %s", words);
+    case SQLITE_IOERR: return disk_failed(store, code, words);
     default: return report(name, "SQLite: %s", sqlite3_errmsg(store->base));
     }
 }
@@ -142,20 +156,20 @@ static void start_wait(struct store *store)
     clock_gettime(CLOCK_MONOTONIC, &store->since);
 }
 
-static double waited(const struct store *store)
+static double seconds_since(const struct timespec *then)
 {
     struct timespec now;
     clock_gettime(CLOCK_MONOTONIC, &now);
-    return (double)(now.tv_sec - store->since.tv_sec) + (double)(now.tv_nsec - store->since.tv_nsec) / 1e9;
+    return (double)(now.tv_sec - then->tv_sec) + (double)(now.tv_nsec - then->tv_nsec) / 1e9;
 }
 
 /* SQLite asks this whenever a lock is taken: 1 to try again. */
 static int try_again(void *context, int tries)
 {
     struct store *store = context;
-    double seconds = waited(store);
-    struct timespec pause = {0, 500000 + 500000 * (tries % 7)}; /* others wait with other pauses */
-    if (seconds >= store->wait)
+    double seconds = seconds_since(&store->since);
+    struct timespec pause = {0, 300000 + 300000 * (tries % 5)}; /* others wait with other pauses */
+    if (seconds >= store->wait || signals_came())
         return 0;
     if (seconds >= 1 && !store->told) {
         store->told = 1;
@@ -163,6 +177,16 @@ static int try_again(void *context, int tries)
     }
     nanosleep(&pause, NULL);
     return 1;
+}
+
+/* Others look for the lock every 1.5 ms or more often: who makes call after call stands back for one such look. */
+static void give_way(struct store *store)
+{
+    const struct timespec pause = {0, 2000000};
+    if (seconds_since(&store->turn) < 0.05)
+        return;
+    nanosleep(&pause, NULL);
+    clock_gettime(CLOCK_MONOTONIC, &store->turn);
 }
 
 /* ── Statements ────────────────────────────────────────────────────────────────────────────────── */
@@ -230,8 +254,10 @@ static int take_hash(sqlite3_stmt *row, int column, struct hash *hash)
 
 static int take_number(sqlite3_stmt *row, int column, uint64_t *number)
 {
+    if (sqlite3_column_type(row, column) != SQLITE_INTEGER)
+        return -1;
     sqlite3_int64 value = sqlite3_column_int64(row, column);
-    if (sqlite3_column_type(row, column) != SQLITE_INTEGER || value < 0)
+    if (value < 0)
         return -1;
     *number = (uint64_t)value;
     return 0;
@@ -355,118 +381,6 @@ static int put_zone(struct store *store, const uint8_t *image, const struct hash
     return run(store, PUT_ZONE);
 }
 
-/* ── The file, before SQLite sees it ───────────────────────────────────────────────────────────── */
-
-static uint32_t big_endian(const uint8_t *at)
-{
-    return (uint32_t)at[0] << 24 | (uint32_t)at[1] << 16 | (uint32_t)at[2] << 8 | at[3];
-}
-
-/* Fields of SQLite's header that a zone never changes: page size, legacy format, no free pages, UTF-8, zeros. */
-static int header_ours(const uint8_t *header)
-{
-    static const uint8_t layout[] = {PAGE >> 8, PAGE & 0xff, 1, 1, 0, 64, 32, 32}, zeros[20] = {0};
-    return memcmp(header + 16, layout, sizeof layout) == 0 && memcmp(header + 32, zeros, 8) == 0
-           && big_endian(header + 44) == 4 && memcmp(header + 48, zeros, 8) == 0 && big_endian(header + 56) == 1
-           && big_endian(header + 64) == 0 && memcmp(header + 72, zeros, 20) == 0;
-}
-
-static int judge_header(const char *name, enum store_use use, const uint8_t *header, ssize_t has, off_t length)
-{
-    static const char magic[16] = "SQLite format 3";
-    if (has < 0)
-        return report(name, "cannot be read: %s", strerror(errno));
-    if (length == CRZ_IMAGE_LENGTH)
-        return report(name, "is no zone; if it is a raw image, 'crz import ZONE %s' makes a zone from it", name);
-    if (has < HEADER || memcmp(header, magic, sizeof magic) != 0 || big_endian(header + 68) != APPLICATION)
-        return report(name, "is no zone; name a file that 'crz new' or 'crz import' has made");
-    if (big_endian(header + 60) != STORE_FORMAT)
-        return report(
-            name, "is a zone of format %u; this program knows format %d", big_endian(header + 60), STORE_FORMAT);
-    return header_ours(header) ? 0 : store_damaged(name, use, "its header is changed");
-}
-
-static int judge_kind(const char *name, int file, struct stat *is)
-{
-    if (fstat(file, is) != 0)
-        return report(name, "cannot be read: %s", strerror(errno));
-    if (S_ISDIR(is->st_mode))
-        return report(name, "is a folder, not a zone");
-    return S_ISREG(is->st_mode) ? 0 : report(name, "is no regular file");
-}
-
-/* Closed again before SQLite opens the file: a second descriptor, closed later, would drop SQLite's locks. */
-static int judge_file(const char *name, enum store_use use, struct stat *is)
-{
-    uint8_t header[HEADER];
-    int file = open(name, O_RDONLY | O_NONBLOCK | O_NOCTTY | O_CLOEXEC);
-    if (file < 0 && errno == ENOENT)
-        return report(name, "there is no such file; 'crz new FILE' makes a zone");
-    if (file < 0)
-        return report(name, "cannot be opened: %s", strerror(errno));
-    int bad = judge_kind(name, file, is);
-    if (!bad)
-        bad = judge_header(name, use, header, pread(file, header, HEADER, 0), is->st_size);
-    close(file);
-    return bad ? -1 : 0;
-}
-
-/* Whether a file is SQLite's rollback file, by its first bytes: its mark, zeros after a commit, or nothing. */
-static int is_rollback_file(const char *path)
-{
-    static const uint8_t mark[8] = {0xd9, 0xd5, 0x05, 0xf9, 0x20, 0xa1, 0x63, 0xd7}, zeros[8] = {0};
-    uint8_t first[8];
-    int file = open(path, O_RDONLY | O_NONBLOCK | O_NOCTTY | O_CLOEXEC);
-    if (file < 0)
-        return 1; /* SQLite meets the same error and says so */
-    ssize_t has = pread(file, first, sizeof first, 0);
-    close(file);
-    return has == 0 || (has == 8 && (memcmp(first, mark, 8) == 0 || memcmp(first, zeros, 8) == 0));
-}
-
-/* SQLite would take files with these names for its own, and change or remove them. */
-static int judge_beside(const char *name, const char *path)
-{
-    char beside[LONGEST_PATH + 16];
-    struct stat is;
-    if (strlen(path) > LONGEST_PATH)
-        return report(name, "its whole path is longer than %d bytes", LONGEST_PATH);
-    for (size_t i = 0; i < ENDINGS; i++) {
-        snprintf(beside, sizeof beside, "%s%s", path, endings[i]);
-        if (lstat(beside, &is) == 0 && (i != 0 || !S_ISREG(is.st_mode) || !is_rollback_file(beside)))
-            return report(name, "%s does not belong to it; move that file away first", beside);
-    }
-    return 0;
-}
-
-/* SQLite makes its rollback file in the zone's folder, and makes its name durable there. */
-static int judge_folder(const char *name, const char *path)
-{
-    int folder = file_folder(path);
-    if (folder < 0)
-        return -1;
-    int bad = faccessat(folder, ".", W_OK | X_OK, AT_EACCESS) != 0;
-    int why = errno;
-    close(folder);
-    if (!bad)
-        return 0;
-    return report(name, "its folder cannot be written: %s; SQLite keeps a file there during a call", strerror(why));
-}
-
-/* The superuser may write every file; a file that nobody may write is meant to stay as it is. */
-static int judge_writing(const char *name, const char *path, const struct stat *is)
-{
-    if ((is->st_mode & (S_IWUSR | S_IWGRP | S_IWOTH)) == 0)
-        return report(
-            name, "nobody may write it (mode %03o); 'chmod u+w FILE' allows it", (unsigned)is->st_mode & 07777);
-    if (is->st_nlink > 1)
-        return report(name, "has %lu names (hard links), which SQLite cannot keep apart; remove the others",
-            (unsigned long)is->st_nlink);
-    if (faccessat(AT_FDCWD, path, W_OK, AT_EACCESS) != 0)
-        return report(name, "cannot be written: %s", strerror(errno));
-    return judge_folder(name, path);
-}
-
 /* ── Opening and closing ───────────────────────────────────────────────────────────────────────── */
 
 /* Rows of the schema that are one of the tables, in their order; any other row makes it -1. */
@@ -498,6 +412,7 @@ static int set_up(struct store *store)
     sqlite3_db_config(store->base, SQLITE_DBCONFIG_ENABLE_VIEW, 0, NULL);
     sqlite3_busy_handler(store->base, try_again, store);
     start_wait(store);
+    store->turn = store->since;
     if (execute(store, "PRAGMA trusted_schema = OFF") != 0 || execute(store, "PRAGMA cell_size_check = ON") != 0
         || execute(store, "PRAGMA mmap_size = 0") != 0 || execute(store, "PRAGMA temp_store = MEMORY") != 0
         || execute(store, "PRAGMA fullfsync = ON") != 0 || execute(store, "PRAGMA synchronous = EXTRA") != 0)
@@ -574,8 +489,8 @@ static int fill(struct store *store, const uint8_t *image, const struct line *st
 {
     char ids[128];
     sqlite3_stmt *row = NULL;
-    snprintf(ids, sizeof ids, "PRAGMA page_size = %d; PRAGMA application_id = %d; PRAGMA user_version = %d", PAGE,
-        APPLICATION, STORE_FORMAT);
+    snprintf(ids, sizeof ids, "PRAGMA page_size = %d; PRAGMA application_id = %d; PRAGMA user_version = %d", JUDGE_PAGE,
+        JUDGE_APPLICATION, STORE_FORMAT);
     if (execute(store, ids) != 0 || execute(store, tables[0]) != 0 || execute(store, tables[1]) != 0)
         return -1;
     int code = sqlite3_prepare_v2(store->base, "INSERT INTO zone VALUES (1, ?1, ?2)", -1, &row, NULL);
@@ -587,34 +502,6 @@ static int fill(struct store *store, const uint8_t *image, const struct line *st
         code = sqlite3_step(row);
     sqlite3_finalize(row);
     return code == SQLITE_DONE ? add_line(store, start) : failed(store);
-}
-
-/* SQLite takes whole paths up to a length; a zone that nobody could open is not made. */
-static int path_fits(const char *path)
-{
-    char here[LONGEST_PATH + 1];
-    if (path[0] == '/')
-        return strlen(path) <= LONGEST_PATH;
-    return getcwd(here, sizeof here) != NULL && strlen(here) + 1 + strlen(path) <= LONGEST_PATH;
-}
-
-/* What is left of another zone would be taken for changes of this one, and a name like that for a file of SQLite's. */
-static int judge_name(const char *path)
-{
-    char beside[LONGEST_PATH + 16];
-    struct stat is;
-    size_t length = strlen(path);
-    if (!path_fits(path))
-        return report(path, "its whole path is longer than %d bytes", LONGEST_PATH);
-    for (size_t i = 0; i < ENDINGS; i++) {
-        size_t end = strlen(endings[i]);
-        if (length >= end && strcmp(path + length - end, endings[i]) == 0)
-            return report(path, "names that end in %s are SQLite's own; choose another name", endings[i]);
-        snprintf(beside, sizeof beside, "%s%s", path, endings[i]);
-        if (lstat(beside, &is) == 0)
-            return report(path, "%s is there, left of another zone perhaps; move that file away first", beside);
-    }
-    return 0;
 }
 
 /* The file's bytes, made in memory; NULL after a message. */
@@ -661,7 +548,7 @@ static int judge_place(struct store *store)
         return failed_at(store, code);
     if (!in_place(store, &is))
         return moved(store);
-    return is.st_size == pages * PAGE ? 0 : damaged(store, "it has another length than its header says");
+    return is.st_size == pages * JUDGE_PAGE ? 0 : damaged(store, "it has another length than its header says");
 }
 
 void store_cancel(struct store *store)
@@ -672,6 +559,7 @@ void store_cancel(struct store *store)
 
 int store_begin(struct store *store)
 {
+    give_way(store);
     start_wait(store);
     if (run(store, BEGIN) != 0)
         return -1;

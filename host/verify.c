@@ -27,7 +27,6 @@ static int bad_line(struct replay *replay, uint64_t sequence, const char *what)
 {
     char words[160];
     replay->named = 1;
-    progress_end(&replay->progress);
     snprintf(words, sizeof words, "line %" PRIu64 " of the journal is the first bad one: %s", sequence, what);
     return store_damaged(replay->path, STORE_VERIFY, words);
 }
@@ -159,7 +158,7 @@ static int walk(struct store *store, struct replay *replay, const struct newest 
     uint64_t last = newest == NULL ? INT64_MAX : newest->last.sequence;
     replay->progress = progress_start("verify", newest == NULL ? 0 : last);
     int bad = store_walk(store, 0, last, replay_line, replay);
-    progress_end(&replay->progress);
+    progress_clear();
     if (bad != 0 && !replay->named)
         bad_line(replay, replay->next, "it cannot be read");
     return bad;

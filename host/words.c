@@ -3,13 +3,13 @@
 #include <string.h>
 
 #include "digits.h"
-#include "nearest.h"
+#include "report.h"
 
 const struct field_words fields[FIELDS] = {
     [FIELD_ACCOUNT] = {"account", "account", CRZ_CALL_ACCOUNT, 1, 0, 255, 1, CRZ_ACCOUNT_COUNT, 1},
     [FIELD_RECEIPT] = {"receipt", "receipt", CRZ_CALL_RECEIPT, 1, 0, 255, 1, CRZ_RECEIPT_COUNT, 1},
     [FIELD_CONTRACT] = {"contract", "contract", CRZ_CALL_CONTRACT, 1, 0, 255, 1, CRZ_CONTRACT_COUNT, 1},
-    [FIELD_DAYS] = {"days", "days", CRZ_CALL_DAYS, 1, 0, 255, 0, CRZ_DAYS_MOST, 1},
+    [FIELD_DAYS] = {"days", "days", CRZ_CALL_DAYS, 1, 0, 255, CRZ_DAYS_LEAST, CRZ_DAYS_MOST, 1},
     [FIELD_FEN] = {"fen", "fen", CRZ_CALL_AMOUNT, 8, 0, INT64_MAX, CRZ_AMOUNT_LEAST, CRZ_AMOUNT_MOST, 1},
     [FIELD_YUAN] = {"yuan", "yuan", CRZ_CALL_AMOUNT, 8, 0, INT64_MAX, CRZ_PRICE_LEAST, CRZ_PRICE_MOST, CRZ_PRICE_STEP},
     [FIELD_BASIS] = {"basis-yuan", "basis_yuan", CRZ_CALL_BASIS, 4, INT32_MIN, INT32_MAX, CRZ_BASIS_LEAST,
@@ -75,29 +75,37 @@ const char *party_words(enum party party)
         [PARTY_SELLER] = "the seller",
         [PARTY_BUYER] = "the buyer",
         [PARTY_NOT_SELLER] = "any account but the seller",
-        [PARTY_HOST] = "the desk",
+        [PARTY_HOST] = "the host",
     };
     return words[party];
 }
 
-static const struct kind_words *kind_named(const char *word, char *message, size_t length)
+const struct kind_words *kind_named(const char *word)
 {
-    struct nearest nearest = nearest_to(word);
-    char hint[64];
-    for (size_t i = 0; i < KINDS; i++) {
+    for (size_t i = 0; i < KINDS; i++)
         if (strcmp(kinds[i].word, word) == 0)
             return &kinds[i];
-        nearest_try(&nearest, kinds[i].word);
-    }
-    nearest_words(&nearest, hint, sizeof hint);
-    snprintf(message, length, "'%s' is no kind of call%s", word, hint);
     return NULL;
 }
 
-int is_kind(const char *word)
+void nearest_kind(struct nearest *nearest)
 {
-    char message[128];
-    return kind_named(word, message, sizeof message) != NULL;
+    for (size_t i = 0; i < KINDS; i++)
+        nearest_try(nearest, kinds[i].word);
+}
+
+/* The kind, or NULL with a message that names the nearest one. */
+static const struct kind_words *kind_asked(const char *word, char *message, size_t length)
+{
+    const struct kind_words *kind = kind_named(word);
+    struct nearest nearest = nearest_to(word);
+    char hint[64];
+    if (kind != NULL)
+        return kind;
+    nearest_kind(&nearest);
+    nearest_words(&nearest, hint, sizeof hint);
+    snprintf(message, length, "%s is no kind of call%s", quoted(word).text, hint);
+    return NULL;
 }
 
 /* The nearest of the fields that the kind takes. */
@@ -109,7 +117,7 @@ static void name_field(const char *word, const struct kind_words *kind, char *me
         if (kind->takes & BIT(f))
             nearest_try(&nearest, fields[f].word);
     nearest_words(&nearest, hint, sizeof hint);
-    snprintf(message, length, "%s: '%s' is no field%s", kind->word, word, hint);
+    snprintf(message, length, "%s: %s is no field%s", kind->word, quoted(word).text, hint);
 }
 
 /* FIELDS where no field has that name. */
@@ -126,11 +134,11 @@ static int put_field(uint8_t *call, const struct field_words *field, const char 
     int64_t number;
     const char *fault = digits_read(word, &number);
     if (fault != NULL) {
-        snprintf(message, length, "%s: '%s' %s", field->word, word, fault);
+        snprintf(message, length, "%s: %s %s", field->word, quoted(word).text, fault);
         return -1;
     }
     if (number < field->holds_least || number > field->holds_most) {
-        snprintf(message, length, "%s: %s does not fit; it takes %s to %s", field->word, word,
+        snprintf(message, length, "%s: %s does not fit; it takes %s to %s", field->word, grouped_signed(number).text,
             grouped_signed(field->least).text, grouped_signed(field->most).text);
         return -1;
     }
@@ -147,7 +155,7 @@ static int field_awaited(const struct kind_words *kind, unsigned left, const cha
     if (f == FIELDS)
         name_field(word, kind, message, length);
     else
-        snprintf(message, length, "%s: '%s' %s", kind->word, word,
+        snprintf(message, length, "%s: %s %s", kind->word, quoted(word).text,
             kind->takes & BIT(f) ? "is there twice" : "is not one of its fields");
     return 0;
 }
@@ -170,7 +178,7 @@ static int put_fields(
         if (!field_awaited(kind, left, words[i], message, length))
             return -1;
         if (i + 1 == count) {
-            snprintf(message, length, "%s: '%s' has no value", kind->word, words[i]);
+            snprintf(message, length, "%s: %s has no value", kind->word, quoted(words[i]).text);
             return -1;
         }
         unsigned f = field_named(words[i]);
@@ -183,7 +191,7 @@ static int put_fields(
 
 int call_from_words(uint8_t call[CRZ_CALL_LENGTH], char **words, int count, char *message, size_t message_length)
 {
-    const struct kind_words *kind = kind_named(count > 0 ? words[0] : "", message, message_length);
+    const struct kind_words *kind = kind_asked(count > 0 ? words[0] : "", message, message_length);
     memset(call, 0, CRZ_CALL_LENGTH);
     if (kind == NULL)
         return -1;
@@ -211,19 +219,30 @@ void print_call(const uint8_t call[CRZ_CALL_LENGTH])
             printf(" %s %s", fields[f].word, grouped_signed(call_field(call, f)).text);
 }
 
-static void print_fields(const struct kind_words *kind)
+void print_kind(const struct kind_words *kind)
 {
     printf("  %s", kind->word);
     for (unsigned f = 0; f < FIELDS; f++)
         if (kind->takes & BIT(f))
             printf(" %s N", fields[f].word);
-    putchar('\n');
+    printf("\n      %s: %s\n", party_words(kind->party), kind->what);
+}
+
+void print_ranges(unsigned takes)
+{
+    for (unsigned f = 0; f < FIELDS; f++) {
+        if (!(takes & BIT(f)))
+            continue;
+        printf("  %-10s  %s to %s", fields[f].word, grouped_signed(fields[f].least).text,
+            grouped_signed(fields[f].most).text);
+        if (fields[f].step > 1)
+            printf(" in steps of %s", grouped_signed(fields[f].step).text);
+        putchar('\n');
+    }
 }
 
 void print_kinds(void)
 {
-    for (size_t i = 0; i < KINDS; i++) {
-        print_fields(&kinds[i]);
-        printf("      %s: %s\n", party_words(kinds[i].party), kinds[i].what);
-    }
+    for (size_t i = 0; i < KINDS; i++)
+        print_kind(&kinds[i]);
 }

@@ -5,6 +5,7 @@
 #include <stdio.h>
 
 #include "../include/crz_records.h"
+#include "nearest.h"
 
 enum field {
     FIELD_ACCOUNT,
@@ -45,7 +46,11 @@ extern const char *const state_words[STATES];
 
 /* NULL where there is no such kind. */
 const struct kind_words *kind_of(uint32_t kind);
-int is_kind(const char *word);
+const struct kind_words *kind_named(const char *word);
+
+/* Tries every kind as the word that a user meant. */
+void nearest_kind(struct nearest *nearest);
+
 const char *party_words(enum party party);
 
 /*
@@ -60,7 +65,11 @@ int64_t call_field(const uint8_t call[CRZ_CALL_LENGTH], enum field field);
 /* A call record in words, as call_from_words takes them. */
 void print_call(const uint8_t call[CRZ_CALL_LENGTH]);
 
-/* All kinds with the fields that each of them takes, who may make it and what it does. */
+/* A kind, or all of them, with the fields that it takes, who may make it and what it does. */
+void print_kind(const struct kind_words *kind);
 void print_kinds(void);
+
+/* The ranges of fields, a bit for each. */
+void print_ranges(unsigned takes);
 
 #endif

@@ -103,9 +103,8 @@ static enum status commit(struct store *store, const uint8_t *image, const struc
     case COMMIT_NOT_DONE: return STATUS_NOTHING_DONE;
     default:
         report(store_path(store),
-            "the disk failed while call %" PRIu64 " was kept; 'crz log --last 1' shows whether it "
-            "was made",
-            line->sequence);
+            "the disk failed while call %" PRIu64 " was kept; 'crz log %s --last 1' shows whether it was made",
+            line->sequence, store_path(store));
         return STATUS_NOT_SHOWN;
     }
 }

@@ -66,7 +66,8 @@ extern "C" {
 #define CRZ_WEIGHT_MOST 60000
 #define CRZ_AMOUNT_LEAST 1 /* fen, of one call */
 #define CRZ_AMOUNT_MOST UINT64_C(1000000000000)
-#define CRZ_DAYS_MOST 3 /* D, the days from the strike to the delivery: 0 to 3 */
+#define CRZ_DAYS_LEAST 0 /* D, the days from the strike to the delivery */
+#define CRZ_DAYS_MOST 3
 #define CRZ_DAY_LEAST 1
 #define CRZ_DAY_MOST 30000
 #define CRZ_DUE_LEAST 1
@@ -98,7 +99,7 @@ enum crz_number {
 
 /* ── Call: 24 bytes. Fields that a kind does not use are zero. ─────────────────────────────────── */
 
-enum crz_call_offset {
+enum crz_call_layout {
     CRZ_CALL_KIND = 0,     /* u8 */
     CRZ_CALL_ACCOUNT = 1,  /* u8, 1 to 96 */
     CRZ_CALL_RECEIPT = 2,  /* u8, 1 to 128 */
@@ -126,12 +127,12 @@ enum crz_kind {
     CRZ_KIND_FIRST_PAYMENT = 12,   /* account, receipt; the seller; settled */
     CRZ_KIND_INVOICE = 13,         /* account, receipt, amount; the seller; first paid, no invoice pending */
     CRZ_KIND_CONFIRM = 14,         /* account, receipt; the buyer; first paid, an invoice pending */
-    CRZ_KIND_DAY_CLOSE = 15        /* no field; the host; in an afternoon */
+    CRZ_KIND_DAY_CLOSE = 15        /* no field; the host; in an afternoon, but not of day 30,000 */
 };
 
 /* ── Answer: 1,040 bytes. A refusal fills the number alone. ────────────────────────────────────── */
 
-enum crz_answer_offset {
+enum crz_answer_layout {
     CRZ_ANSWER_NUMBER = 0, /* u8 */
     CRZ_ANSWER_PHASE = 1,  /* u8: phase after the call */
     CRZ_ANSWER_COUNT = 2,  /* u16: entries */
@@ -140,7 +141,7 @@ enum crz_answer_offset {
     CRZ_ANSWER_ENTRIES = 16
 };
 
-enum crz_entry_offset {
+enum crz_entry_layout {
     CRZ_ENTRY_LOT = 0,     /* u8 */
     CRZ_ENTRY_OUTCOME = 1, /* u8 */
     CRZ_ENTRY_FROM = 2,    /* u8: account */
@@ -154,8 +155,8 @@ enum crz_entry_offset {
  * seller of a listing, in `from` and 0 in `to`. Where money passes, it passes from `from` to `to`.
  *
  * Entries stand in this order: both closes have their lots ascending; a quote has each lot that it strikes once, in an
- * order that a host must not rely on. Pay-ins and take-outs have no entry, every other kind has one, for its own lot. A
- * bid that another bid replaces, and a bid on a listing that ends, have no entry of their own.
+ * order that a host must not rely on. Pay-ins and take-outs have no entry; each kind not named here has one, for its own
+ * lot. A bid that another bid replaces, and a bid on a listing that ends, have no entry of their own.
  */
 enum crz_outcome { /* what the entry's number is; 0 where nothing stands */
     CRZ_OUTCOME_REGISTERED = 1,
@@ -177,7 +178,7 @@ enum crz_outcome { /* what the entry's number is; 0 where nothing stands */
 
 /* ── Image: 5,696 bytes ────────────────────────────────────────────────────────────────────────── */
 
-enum crz_image_offset {
+enum crz_image_layout {
     CRZ_IMAGE_ACCOUNT_COUNT = 0,    /* u16, CRZ_ACCOUNT_COUNT */
     CRZ_IMAGE_RECEIPT_COUNT = 2,    /* u16, CRZ_RECEIPT_COUNT */
     CRZ_IMAGE_CONTRACT_COUNT = 4,   /* u16, CRZ_CONTRACT_COUNT */
@@ -198,12 +199,12 @@ enum crz_phase {
     CRZ_PHASE_AFTERNOON = 1
 };
 
-enum crz_account_offset {
+enum crz_account_layout {
     CRZ_ACCOUNT_FREE = 0,  /* u64, fen */
     CRZ_ACCOUNT_FROZEN = 8 /* u64, fen */
 };
 
-enum crz_receipt_offset {
+enum crz_receipt_layout {
     CRZ_RECEIPT_OWNER = 0,      /* u8: account; 0 where the receipt is not registered */
     CRZ_RECEIPT_STATE = 1,      /* u8 */
     CRZ_RECEIPT_SELLER = 2,     /* u8: account */

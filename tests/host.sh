@@ -12,8 +12,16 @@ ends 0 "crz 1.0.0, zone format 1, SQLite 3" --version
 for command in new call play show log verify statement due import export; do
     ends 0 "crz $command FILE" help "$command"
     ends 0 "crz $command FILE" "$command" --help
+    ends 0 "crz 1.0.0, zone format 1" "$command" --version
     ends 2 "$command takes FILE" "$command"
 done
+ends 0 "crz new FILE" help --help
+ends 0 "crz new FILE" help help
+ends 0 "crz 1.0.0" help --version
+ends 0 "kilograms   1,000 to 60,000" help call
+ends 0 "limit-bid account N receipt N yuan N" help limit-bid
+ends 0 "yuan        5 to 200,000 in steps of 5" help limit-bid
+ends 2 "'limt-bid' is no command and no kind of call; did you mean 'limit-bid'?" help limt-bid
 ends 0 "limit-bid account N receipt N yuan N" help call
 ends 0 "any account but the seller" help call
 holds "crz new --help makes no zone" test ! -e --help
@@ -21,7 +29,8 @@ ends 2 "'statment' is no command; did you mean 'statement'?" statment zone 1
 ends 2 "'hlep' is no command; did you mean 'help'?" hlep
 ends 2 "'--versoin' is no command; did you mean '--version'?" --versoin
 ends 2 "'pay-in' is a kind of call: 'crz call FILE pay-in ..'" pay-in zone
-ends 2 "'shwo' is no command; did you mean 'show'?" help shwo
+ends 2 "'shwo' is no command and no kind of call; did you mean 'show'?" help shwo
+ends 2 "'s?[31m' is no command" $'s\e[31m'
 ends 2 "show: '--jsno' is no option of it; did you mean '--json'?" show zone --jsno
 ends 2 "show: '--stop' is no option of it" show zone --stop
 ends 2 "show takes FILE; 'more' is too much" show zone more
@@ -30,9 +39,11 @@ ends 2 "log: --account: 97 is not in 1 to 96" log zone --account 97
 ends 2 "log: --lot has no value" log zone --lot
 ends 2 "log: --last is there twice" log zone --last 1 --last=2
 ends 2 "log: --head takes no value" log zone --head=1
+ends 2 "log: --head does not go together with --account, --lot or --last" log zone --head --last 1
 ends 2 "statement: account '0' is not in 1 to 96" statement zone 0
 ends 2 "statement: account 'eleven' is not a whole number" statement zone eleven
-ends 3 "there is no such file" show zone
+ends 3 "zone: there is no such file; 'crz new zone' makes a zone" show zone
+ends 3 "crz: '': there is no such file" show ""
 ends 3 "there is no such file" call zone day-close
 ends 3 "the call was not made" call zone day-close
 holds "a call on no zone leaves no file" test ! -e zone
@@ -55,9 +66,14 @@ ends 2 "not a whole number" call zone pay-in account 3 fen -
 ends 2 "grouped in another way" call zone pay-in account 3 fen 12,34
 ends 2 "grouped in another way" call zone pay-in account 3 fen 1234,567
 ends 2 "grouped in another way" call zone pay-in account 3 fen ,123
+ends 2 "grouped in another way" call zone pay-in account 3 fen 0,005
+ends 2 "grouped in another way" call zone pay-in account 3 fen 000,123
 ends 2 "account: 256 does not fit; it takes 1 to 96" call zone pay-in account 256 fen 1
 ends 2 "does not fit" call zone pay-in account 3 fen -1
 ends 2 "is too large" call zone pay-in account 3 fen 99999999999999999999
+ends 2 "99..' is too large" call zone pay-in account 3 fen "$(printf '9%.0s' $(seq 2000))"
+ends 2 "aa..' is no kind of call" call zone "$(printf 'a%.0s' $(seq 2000))"
+ends 2 "aa..' is no field" call zone pay-in "$(printf 'a%.0s' $(seq 2000))" 1
 holds "bad words leave no line" test "$(sequence zone)" -eq 0
 ends 0 "accepted, sequence 1: morning, total 1,234,567 fen" call zone pay-in account 3 fen 1,234,567
 ends 0 "1,234,567" show zone
@@ -96,7 +112,7 @@ ends 0 "seller 3 must lodge" due zone
 ends 0 "lodged" call zone lodge account 3 receipt 1
 ends 0 "settled" call zone morning-close
 ends 1 "it is the afternoon of day 1, its morning close is made" call zone morning-close
-ends 0 "first payment, buyer 4, seller 3, 3,299 fen" call zone first-payment account 3 receipt 1
+ends 0 "first paid, buyer 4, seller 3, 3,299 fen" call zone first-payment account 3 receipt 1
 ends 1 "no invoice waits for a confirmation" call zone confirm account 4 receipt 1
 ends 1 "the invoice is 4,125 fen, 4,124 fen are left to invoice" call zone invoice account 3 receipt 1 fen 4125
 ends 0 "invoiced" call zone invoice account 3 receipt 1 fen 100
@@ -179,7 +195,7 @@ holds "the head is the last hash" grep -q "$("$crz" verify day | sed -n 's/.*las
 ends 0 "sequence 34, 20" log day --head
 ends 0 "pay-ins 100,000,000 + received 0 - take-outs 0 - passed on 63,092,610 fen" statement day 11
 ends 0 "= free 36,907,390 + frozen 0 = 36,907,390 fen" statement day 11
-ends 0 "first payment, lot 1, to account 1" statement day 11
+ends 0 "first paid, lot 1, to account 1" statement day 11
 ends 0 "buyer default, lot 2, from account 13" statement day 2
 ends 0 "penalty, lot 3, to account 14" statement day 3
 ends 0 "penalty, lot 3, from account 3" statement day 14
@@ -195,6 +211,19 @@ ends 0 "held from the buyer 5,000,000 fen" show noon
 printf 'morning-close\n' | "$crz" play noon - >/dev/null
 ends 0 "seller 3 owes 5,000,000 fen to buyer 14" due noon
 ends 0 "(tomorrow: today's is made), works 1 lot" due noon
+
+# ── A desk with books of its own ────────────────────────────────────────────────────────────────────
+# One of the two runs ends in a morning, the other in an afternoon, both with lots that are due.
+for seed in 10 7; do
+    "$crz" new "desk.$seed" >/dev/null
+    python3 "$here/tests/host_desk.py" "$crz" "desk.$seed" "$seed" 900 >said
+    status=$?
+    cat said
+    holds "a desk with books of its own ends with $status" test "$status" -eq 0
+    last=$(tail -n 1 said)
+    passed=$((passed + ${last%% *}))
+    ends 0 "replay: 900 calls compared" verify "desk.$seed"
+done
 
 # ── Objects for programs ────────────────────────────────────────────────────────────────────────────
 cat >objects.py <<'END'
@@ -255,12 +284,20 @@ ends 0 "need a start from a fresh zone, this one was imported" verify moved
 ends 0 "replay: 1 call compared" verify moved
 ends 3 "exists already" import moved day.image
 head -c 5695 day.image >short
-ends 3 "is no raw image: an image has 5696 bytes" import short.zone short
+ends 3 "is no raw image: an image has 5,696 bytes" import short.zone short
 { cat day.image; printf '\0'; } >long
 ends 3 "is no raw image" import long.zone long
 { printf '\377'; tail -c +2 day.image; } >damaged
 ends 3 "is no valid image of a zone; no zone was made" import damaged.zone damaged
 holds "a bad image makes no zone" test ! -e short.zone -a ! -e long.zone -a ! -e damaged.zone
+
+# The last day of a zone, by an image of that day.
+python3 -c 'b = bytearray(open("day.image", "rb").read()); b[6:8] = (30000).to_bytes(2, "little"); open("last.image", "wb").write(b)'
+ends 0 "a zone with that image" import last last.image
+ends 0 "day 30,000, afternoon" show last
+ends 0 "no morning close comes: day 30,000 is the last" due last
+ends 1 "refused 5, sequence 1: not in this phase of the day: day 30,000 is the last day of a zone" call last day-close
+objects 'assert kinds["close"][0] == {"type": "close", "day": None, "today": False, "lots": 0}' due last
 
 # ── What the documents show ─────────────────────────────────────────────────────────────────────────
 mkdir readme guide guide/target

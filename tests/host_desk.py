@@ -1,0 +1,470 @@
+"""A desk with books of its own: host_desk.py PROGRAM ZONE SEED CALLS
+
+Plays random calls through the program on a fresh zone and compares each answer, with the words of each refusal, and
+then what show, due and statement say, with books that are kept here apart. The last line is 'N passed, M failed'.
+"""
+import json
+import random
+import subprocess
+import sys
+
+IDLE, LISTED, BID_STANDS, STRUCK, LODGED, SETTLED, FIRST_PAID, PENALTY_DUE = range(8)
+STATES = ["idle", "listed", "bid stands", "struck", "lodged", "settled", "first paid", "penalty due"]
+DEPOSIT = PENALTY = 5000000
+PARTIES = ["account", "receipt"]
+FIELDS = {
+    "pay-in": ["account", "fen"], "take-out": ["account", "fen"], "register": PARTIES + ["kilograms"],
+    "list": PARTIES + ["contract", "days", "basis_yuan"], "withdraw-listing": PARTIES,
+    "limit-bid": PARTIES + ["yuan"], "market-bid": PARTIES, "withdraw-bid": PARTIES, "quote": ["contract", "yuan"],
+    "lodge": PARTIES, "morning-close": [], "first-payment": PARTIES, "invoice": PARTIES + ["fen"],
+    "confirm": PARTIES, "day-close": [],
+}
+OFTEN = [10, 4, 8, 30, 1, 30, 6, 2, 6, 25, 3, 15, 25, 25, 3]
+RANGES = {"account": (1, 96), "receipt": (1, 128), "contract": (1, 8), "days": (0, 3), "fen": (1, 10 ** 12),
+          "yuan": (5, 200000), "basis_yuan": (-50000, 50000), "kilograms": (1000, 60000)}
+NEEDS = {"list": [IDLE], "withdraw-listing": [LISTED, BID_STANDS], "limit-bid": [LISTED, BID_STANDS],
+         "market-bid": [LISTED, BID_STANDS], "withdraw-bid": [BID_STANDS], "lodge": [STRUCK],
+         "first-payment": [SETTLED], "invoice": [FIRST_PAID], "confirm": [FIRST_PAID]}
+PARTY = {"list": "owner", "withdraw-listing": "seller", "withdraw-bid": "buyer", "lodge": "seller",
+         "first-payment": "seller", "invoice": "seller", "confirm": "buyer"}
+BIDS = ["limit-bid", "market-bid"]
+
+
+def grouped(number):
+    return "{:,}".format(number)
+
+
+class Lot:
+    """A receipt and its sale; None where a field is not filled."""
+
+    def __init__(self, owner, kilograms):
+        self.owner, self.kilograms = owner, kilograms
+        self.end()
+
+    def end(self):
+        self.state = IDLE
+        self.seller = self.buyer = self.contract = self.days = self.basis = self.price = self.due = None
+        self.pending = self.confirmed = self.paid = None
+
+    def full(self):
+        return ((self.price + self.basis) * self.kilograms + 5) // 10
+
+    def rest(self):
+        return self.full() - self.full() * 80 // 100
+
+    def held(self):
+        if self.state in (BID_STANDS, STRUCK, LODGED):
+            return DEPOSIT
+        if self.state == SETTLED:
+            return self.full()
+        return self.rest() - self.paid if self.state == FIRST_PAID else 0
+
+
+class Books:
+    """What a zone has. A call is tested by refusal() and then made by the method with its kind's name."""
+
+    def __init__(self):
+        self.free, self.asks, self.lots = [0] * 97, [0] * 9, {}
+        self.day, self.afternoon = 1, False
+        self.movements = {}  # of an account: (what, lot, other account, in, out)
+
+    def frozen(self, account):
+        return sum(lot.held() for lot in self.lots.values() if lot.buyer == account)
+
+    def total(self):
+        return sum(self.free) + sum(lot.held() for lot in self.lots.values())
+
+    # ── Refusals: each test gives the words, or None ──
+
+    def out_of_range(self, kind, f, _):
+        said = []
+        for name in FIELDS[kind]:
+            (least, most), word = RANGES[name], name.replace("_", "-")
+            if not least <= f[name] <= most and not (kind == "quote" and f["yuan"] == 0 and name == "yuan"):
+                said.append("%s %s is not in %s to %s" % (word, grouped(f[name]), grouped(least), grouped(most)))
+            elif name == "yuan" and f[name] % 5 != 0:
+                said.append("yuan %d is no multiple of 5" % f[name])
+        return "; ".join(said)
+
+    def wrong_phase(self, kind, _, __):
+        if kind == "morning-close" and self.afternoon:
+            return "it is the afternoon of day %d, its morning close is made; day-close comes next" % self.day
+        if kind == "day-close" and not self.afternoon:
+            return "it is the morning of day %d; morning-close comes first" % self.day
+        return None
+
+    def wrong_state(self, kind, f, lot):
+        if kind == "register" and lot:
+            return "receipt %d is registered already, its owner is %d" % (f["receipt"], lot.owner)
+        if kind in NEEDS and not lot:
+            return "receipt %d is not registered" % f["receipt"]
+        if kind in NEEDS and lot.state not in NEEDS[kind]:
+            return "lot %d is in state '%s', %s needs %s" % (
+                f["receipt"], STATES[lot.state], kind, " or ".join("'%s'" % STATES[s] for s in NEEDS[kind]))
+        if kind == "invoice" and lot.pending:
+            return "an invoice of %s fen waits for its confirmation" % grouped(lot.pending)
+        return "no invoice waits for a confirmation" if kind == "confirm" and not lot.pending else None
+
+    def wrong_party(self, kind, f, lot):
+        if kind in BIDS and lot.seller == f["account"]:
+            return "account %d is the seller of lot %d" % (f["account"], f["receipt"])
+        if kind in PARTY and getattr(lot, PARTY[kind]) != f["account"]:
+            return "account %d is not the %s of lot %d, who is %d" % (
+                f["account"], PARTY[kind], f["receipt"], getattr(lot, PARTY[kind]))
+        return None
+
+    def not_above(self, kind, f, lot):
+        if kind == "limit-bid" and lot.state == BID_STANDS and f["yuan"] <= lot.price:
+            return "the bid is %s, the standing bid %s yuan per tonne" % (grouped(f["yuan"]), grouped(lot.price))
+        return None
+
+    def no_ask(self, kind, _, lot):
+        if kind == "market-bid" and self.asks[lot.contract] == 0:
+            return "contract %d has no ask today; a quote sets one" % lot.contract
+        return None
+
+    def nothing_to_pay(self, kind, f, lot):
+        if kind not in BIDS:
+            return None
+        word, price = ("price", f["yuan"]) if kind == "limit-bid" else ("ask", self.asks[lot.contract])
+        return None if price + lot.basis >= 1 else "%s %s and basis %s make %s yuan per tonne, at least 1 is needed" % (
+            word, grouped(price), grouped(lot.basis), grouped(price + lot.basis))
+
+    def no_money(self, kind, f, lot):
+        if kind not in BIDS + ["take-out"]:
+            return None
+        freed = DEPOSIT if kind in BIDS and lot.buyer == f["account"] else 0
+        needed = f["fen"] if kind == "take-out" else DEPOSIT
+        return None if self.free[f["account"]] + freed >= needed else "account %d has %s fen free, %s needs %s fen" % (
+            f["account"], grouped(self.free[f["account"]]), kind, grouped(needed))
+
+    def over_limit(self, kind, f, _):
+        return "the zone is full" if kind == "pay-in" and self.total() + f["fen"] > 10 ** 15 else None
+
+    def over_invoice(self, kind, f, lot):
+        if kind != "invoice" or f["fen"] <= lot.full() - lot.confirmed:
+            return None
+        return "the invoice is %s fen, %s fen are left to invoice" % (
+            grouped(f["fen"]), grouped(lot.full() - lot.confirmed))
+
+    def refusal(self, kind, f):
+        lot = self.lots.get(f.get("receipt"))
+        tests = [self.out_of_range, self.wrong_phase, self.wrong_state, self.wrong_party, self.not_above, self.no_ask,
+                 self.nothing_to_pay, self.no_money, self.over_limit, self.over_invoice]
+        for number, test in enumerate(tests, 4):
+            said = test(kind, f, lot)
+            if said:
+                return number, said
+        return 0, None
+
+    # ── Calls: each gives its entries, (lot, outcome, from, to, number) ──
+
+    def move(self, account, what, lot=None, other=None, into=None, out=None):
+        self.movements.setdefault(account, []).append((what, lot, other, into, out))
+
+    def transfer(self, what, lot, payer, payee, fen):
+        self.free[payee] += fen
+        self.move(payer, what, lot, payee, out=fen)
+        self.move(payee, what, lot, payer, into=fen)
+        return (lot, what, payer, payee, fen)
+
+    def pay_in(self, f):
+        self.free[f["account"]] += f["fen"]
+        self.move(f["account"], "pay-in", into=f["fen"])
+        return []
+
+    def take_out(self, f):
+        self.free[f["account"]] -= f["fen"]
+        self.move(f["account"], "take-out", out=f["fen"])
+        return []
+
+    def register(self, f):
+        self.lots[f["receipt"]] = Lot(f["account"], f["kilograms"])
+        return [(f["receipt"], "registered", f["account"], 0, 0)]
+
+    def list(self, f):
+        lot = self.lots[f["receipt"]]
+        lot.state, lot.seller, lot.contract = LISTED, f["account"], f["contract"]
+        lot.days, lot.basis = f["days"], f["basis_yuan"]
+        return [(f["receipt"], "listed", f["account"], 0, 0)]
+
+    def drop_bid(self, lot):
+        if lot.state == BID_STANDS:
+            self.free[lot.buyer] += DEPOSIT
+            lot.state, lot.buyer, lot.price = LISTED, None, None
+
+    def withdraw_listing(self, f):
+        lot = self.lots[f["receipt"]]
+        self.drop_bid(lot)
+        lot.end()
+        return [(f["receipt"], "listing ended", f["account"], 0, 0)]
+
+    def strike(self, number, lot):
+        lot.state, lot.due = STRUCK, self.day + (1 if self.afternoon and lot.days == 0 else lot.days)
+        return (number, "struck", lot.buyer, lot.seller, lot.price)
+
+    def bid(self, f, price):
+        lot = self.lots[f["receipt"]]
+        self.drop_bid(lot)
+        self.free[f["account"]] -= DEPOSIT
+        lot.state, lot.buyer, lot.price = BID_STANDS, f["account"], price
+        return lot
+
+    def limit_bid(self, f):
+        lot = self.bid(f, f["yuan"])
+        if 0 < self.asks[lot.contract] <= f["yuan"]:
+            return [self.strike(f["receipt"], lot)]
+        return [(f["receipt"], "bid stands", f["account"], lot.seller, f["yuan"])]
+
+    def market_bid(self, f):
+        lot = self.lots[f["receipt"]]
+        return [self.strike(f["receipt"], self.bid(f, self.asks[lot.contract]))]
+
+    def withdraw_bid(self, f):
+        lot = self.lots[f["receipt"]]
+        self.drop_bid(lot)
+        return [(f["receipt"], "bid withdrawn", f["account"], lot.seller, 0)]
+
+    def quote(self, f):
+        self.asks[f["contract"]] = f["yuan"]
+        return [self.strike(n, lot) for n, lot in self.lots.items() if lot.state == BID_STANDS and
+                lot.contract == f["contract"] and 0 < f["yuan"] <= lot.price]
+
+    def lodge(self, f):
+        lot = self.lots[f["receipt"]]
+        lot.state = LODGED
+        return [(f["receipt"], "lodged", lot.seller, lot.buyer, 0)]
+
+    def close_lodged(self, number, lot, rich):
+        if not rich:
+            entry = self.transfer("buyer default", number, lot.buyer, lot.seller, DEPOSIT)
+            lot.end()
+            return entry
+        self.free[lot.buyer] -= lot.full() - DEPOSIT
+        lot.owner, lot.state = lot.buyer, SETTLED
+        return (number, "settled", lot.buyer, lot.seller, lot.full())
+
+    def close_struck(self, number, lot, rich):
+        seller, buyer = lot.seller, lot.buyer
+        self.free[buyer] += DEPOSIT
+        lot.end()
+        if not rich:
+            return (number, "both defaulted", buyer, seller, 0)
+        lot.state, lot.seller, lot.buyer, lot.due = PENALTY_DUE, seller, buyer, self.day + 1
+        return (number, "seller default", seller, buyer, 0)
+
+    def close_lot(self, number, lot):
+        if lot.state == PENALTY_DUE:
+            fen = min(self.free[lot.seller], PENALTY)
+            self.free[lot.seller] -= fen
+            entry = self.transfer("penalty", number, lot.seller, lot.buyer, fen)
+            lot.end()
+            return entry
+        rich = self.free[lot.buyer] + DEPOSIT >= lot.full()
+        return (self.close_lodged if lot.state == LODGED else self.close_struck)(number, lot, rich)
+
+    def due_lots(self, day):
+        return [n for n in sorted(self.lots) if self.lots[n].state in (STRUCK, LODGED, PENALTY_DUE) and
+                self.lots[n].due <= day]
+
+    def morning_close(self, _):
+        entries = [self.close_lot(n, self.lots[n]) for n in self.due_lots(self.day)]
+        self.afternoon = True
+        return entries
+
+    def first_payment(self, f):
+        lot = self.lots[f["receipt"]]
+        lot.state, lot.pending, lot.confirmed, lot.paid = FIRST_PAID, 0, 0, 0
+        return [self.transfer("first paid", f["receipt"], lot.buyer, lot.seller, lot.full() - lot.rest())]
+
+    def invoice(self, f):
+        lot = self.lots[f["receipt"]]
+        lot.pending = f["fen"]
+        return [(f["receipt"], "invoiced", lot.seller, lot.buyer, f["fen"])]
+
+    def confirm(self, f):
+        lot = self.lots[f["receipt"]]
+        fen = lot.rest() * lot.pending // lot.full()
+        lot.confirmed, lot.pending = lot.confirmed + lot.pending, 0
+        last = lot.confirmed == lot.full()
+        fen = lot.rest() - lot.paid if last else fen
+        lot.paid += fen
+        entry = self.transfer("part paid", f["receipt"], lot.buyer, lot.seller, fen)
+        if last:
+            lot.end()
+        return [entry]
+
+    def day_close(self, _):
+        entries = []
+        for number in sorted(n for n, lot in self.lots.items() if lot.state in (LISTED, BID_STANDS)):
+            entries.append((number, "listing ended", self.lots[number].seller, 0, 0))
+            self.withdraw_listing({"receipt": number, "account": self.lots[number].seller})
+        self.asks, self.day, self.afternoon = [0] * 9, self.day + 1, False
+        return entries
+
+    def call(self, kind, f):
+        number, said = self.refusal(kind, f)
+        return number, said, [] if number else getattr(self, kind.replace("-", "_"))(f)
+
+
+# ── Random calls, most of them sensible ──
+
+def some_lot(chance, books, kind):
+    wanted = [n for n, lot in books.lots.items() if lot.state in NEEDS.get(kind, [])]
+    if kind == "register":
+        wanted = [n for n in list(range(1, 40)) + [127, 128] if n not in books.lots]
+    return chance.choice(wanted) if wanted and chance.random() < 0.9 else chance.choice([0, 1, 5, 128, 129, 255])
+
+
+def some_account(chance, kind, lot):
+    if lot and kind in PARTY and chance.random() < 0.9 and getattr(lot, PARTY[kind]):
+        return getattr(lot, PARTY[kind])
+    return chance.choice(list(range(1, 13)) + [96]) if chance.random() < 0.97 else chance.choice([0, 97, 255])
+
+
+def some_fen(chance, kind, lot):
+    if kind == "invoice" and lot and lot.state == FIRST_PAID:
+        left = lot.full() - lot.confirmed
+        return chance.choice([left, left, max(1, left // 2), max(1, left // 3), left + 1, 1])
+    return chance.choice([0, 1, 10 ** 6, DEPOSIT, 70000000, 10 ** 9, 10 ** 12, 10 ** 12 + 1])
+
+
+def some_call(chance, books):
+    kind = chance.choices(list(FIELDS), OFTEN)[0]
+    receipt = some_lot(chance, books, kind)
+    lot = books.lots.get(receipt)
+    fields = {
+        "account": some_account(chance, kind, lot), "receipt": receipt, "fen": some_fen(chance, kind, lot),
+        "contract": chance.choice([1, 1, 1, 1, 2, 2, 8, 9]), "days": chance.choice([0, 0, 0, 1, 2, 3, 4]),
+        "yuan": chance.choice([0, 3, 5, 14990, 14995, 15000, 15005, 15010, 200000, 200005]),
+        "basis_yuan": chance.choice([-50000, -14999, -4, 0, 0, 300, 300, 50000, 50001]),
+        "kilograms": chance.choice([999, 1000, 1001, 41237, 41237, 60000, 60001]),
+    }
+    return kind, {name: fields[name] for name in FIELDS[kind]}
+
+
+# ── What the program says ──
+
+class Check:
+    def __init__(self):
+        self.passed = self.failed = 0
+
+    def same(self, what, got, wanted):
+        self.passed += got == wanted
+        self.failed += got != wanted
+        if got != wanted and self.failed < 10:
+            print("failed: %s: %s, not %s" % (what, got, wanted))
+
+
+def objects(program, *words, script=None):
+    ran = subprocess.run([program, *words, "--json"], input=script, stdout=subprocess.PIPE, check=False)
+    return [json.loads(line) for line in ran.stdout.decode().splitlines()]
+
+
+def in_words(chance, kind, f):
+    digits = chance.choice(["{}", "{:,}"])
+    return kind + "".join(" %s %s" % (name.replace("_", "-"), digits.format(f[name])) for name in f) + "\n"
+
+
+def entry_fields(entry):
+    return (entry["lot"], entry["outcome"], entry["from"], entry["to"] or 0, entry["fen"] or entry["yuan"] or 0)
+
+
+def make_script(books, seed, calls):
+    """The calls in words, and what is wanted of each: (call, number, words, entries)."""
+    chance, script, wanted = random.Random(seed), "", []
+    for _ in range(calls):
+        kind, f = some_call(chance, books)
+        script += in_words(chance, kind, f)
+        wanted.append((dict(f, kind=kind), *books.call(kind, f)))
+    return script, wanted
+
+
+def compare_answers(check, program, zone, script, wanted):
+    said = objects(program, "play", zone, "-", script=script.encode())
+    check.same("calls played", len(said) - 1, len(wanted))
+    for got, (call, number, seen, entries) in zip(said, wanted):
+        check.same("answer to %s" % call, (got["call"], got["number"], got["seen"]), (call, number, seen))
+        check.same("entries of %s" % call, sorted(map(entry_fields, got["entries"])), sorted(entries))
+
+
+def lot_object(number, lot):
+    traded, invoiced = lot.price is not None, lot.state == FIRST_PAID
+    return {
+        "type": "lot", "lot": number, "state": STATES[lot.state], "owner": lot.owner, "kilograms": lot.kilograms,
+        "seller": lot.seller, "buyer": lot.buyer, "contract": lot.contract, "days": lot.days, "basis_yuan": lot.basis,
+        "price_yuan": lot.price, "due": lot.due, "full_fen": lot.full() if traded else None,
+        "rest_fen": lot.rest() if traded else None, "held_fen": lot.held(), "paid_of_rest_fen": lot.paid,
+        "confirmed_fen": lot.confirmed, "pending_fen": lot.pending,
+        "left_to_invoice_fen": lot.full() - lot.confirmed - lot.pending if invoiced else None,
+    }
+
+
+def compare_show(check, program, zone, books):
+    said = objects(program, "show", zone)
+    check.same("the zone", said[0], {"type": "zone", "day": books.day, "total_fen": books.total(),
+                                     "phase": "afternoon" if books.afternoon else "morning"})
+    check.same("asks", [o["ask_yuan"] or 0 for o in said if o["type"] == "contract"], books.asks[1:])
+    money = {a: (books.free[a], books.frozen(a)) for a in range(1, 97)}
+    check.same("accounts", {o["account"]: (o["free_fen"], o["frozen_fen"]) for o in said if o["type"] == "account"},
+               {a: has for a, has in money.items() if has != (0, 0)})
+    check.same("lots", [o for o in said if o["type"] == "lot"],
+               [lot_object(n, books.lots[n]) for n in sorted(books.lots)])
+
+
+def due_object(books, number):
+    lot = books.lots[number]
+    penalty, seller, buyer = lot.state == PENALTY_DUE, books.free[lot.seller], books.free[lot.buyer]
+    lacks = PENALTY - seller if penalty else lot.full() - DEPOSIT - buyer
+    return {
+        "type": "due", "lot": number, "state": STATES[lot.state], "due": lot.due, "seller": lot.seller,
+        "buyer": lot.buyer, "full_fen": None if penalty else lot.full(), "must_lodge": lot.state == STRUCK,
+        "penalty_fen": PENALTY if penalty else None, "seller_free_fen": seller, "buyer_free_fen": buyer,
+        "deposit_fen": 0 if penalty else DEPOSIT, "lacks_fen": max(0, lacks),
+    }
+
+
+def compare_due(check, program, zone, books):
+    day = books.day + 1 if books.afternoon else books.day
+    lots = books.due_lots(day)
+    close = {"type": "close", "day": day, "today": not books.afternoon, "lots": len(lots)}
+    check.same("what is due", objects(program, "due", zone), [close] + [due_object(books, n) for n in lots])
+
+
+def sums(movements):
+    """pay-ins, take-outs, received, passed"""
+    own = [m for m in movements if m[0] in ("pay-in", "take-out")]
+    other = [m for m in movements if m not in own]
+    return [sum(m[column] or 0 for m in some) for some, column in ((own, 3), (own, 4), (other, 3), (other, 4))]
+
+
+def compare_statement(check, program, zone, books, account):
+    said = objects(program, "statement", zone, str(account))
+    movements = books.movements.get(account, [])
+    check.same("movements of account %d" % account, movements, [
+        (o["what"], o["lot"], o["other_account"], o["in_fen"], o["out_fen"]) for o in said if o["type"] == "movement"])
+    held = [(n, lot.held()) for n, lot in sorted(books.lots.items()) if lot.buyer == account and lot.held() > 0]
+    check.same("held for account %d" % account, [(o["lot"], o["fen"]) for o in said if o["type"] == "held"], held)
+    line = said[-1]
+    check.same("sums of account %d" % account, sums(movements), [
+        line["pay_ins_fen"], line["take_outs_fen"], line["received_fen"], line["passed_fen"]])
+    adds_up = line["pay_ins_fen"] + line["received_fen"] - line["take_outs_fen"] - line["passed_fen"]
+    check.same("the line of account %d" % account, adds_up, books.free[account] + books.frozen(account))
+
+
+def main():
+    program, zone, seed, calls = sys.argv[1:]
+    check, books = Check(), Books()
+    compare_answers(check, program, zone, *make_script(books, int(seed), int(calls)))
+    compare_show(check, program, zone, books)
+    compare_due(check, program, zone, books)
+    for account in range(1, 97):
+        compare_statement(check, program, zone, books, account)
+    print("seed %s: day %d, %s, %d lots due" % (seed, books.day, "afternoon" if books.afternoon else "morning",
+                                               len(books.due_lots(books.day + books.afternoon))))
+    print("%d passed, %d failed" % (check.passed, check.failed))
+    return 1 if check.failed else 0
+
+
+if __name__ == "__main__":
+    sys.exit(main())
