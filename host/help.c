@@ -62,10 +62,10 @@ static const struct help helps[] = {
             "has. In an afternoon that is tomorrow's close.\n"},
     {"import", "crz import FILE IMAGE\n"
                "\n"
-               "Makes a new zone that starts with a raw image of 5,696 bytes, as a host of its own keeps it.\n"},
+               "Makes a new zone that starts with a raw image, as a host of its own keeps it.\n"},
     {"export", "crz export FILE IMAGE  [--wait SECONDS]\n"
                "\n"
-               "Writes the zone's image into a new file of 5,696 bytes.\n"},
+               "Writes the zone's image into a new file, as the library has it in memory.\n"},
 };
 
 enum { HELPS = sizeof helps / sizeof helps[0] };

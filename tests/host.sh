@@ -272,7 +272,7 @@ objects 'assert len(kinds["call"]) == 2 and kinds["played"][0] == {"type": "play
 
 # ── Raw images ──────────────────────────────────────────────────────────────────────────────────────
 ends 0 "day.image: the image after sequence 38" export day day.image
-holds "an image is 5,696 bytes" test "$(stat -c %s day.image)" -eq 5696
+holds "the length of an image" test "$(stat -c %s day.image)" -eq "$image_length"
 ends 3 "exists already" export day day.image
 ends 3 "if it is a raw image, 'crz import ZONE day.image'" show day.image
 ends 0 "moved: a zone with that image, sequence 0" import moved day.image
@@ -283,8 +283,8 @@ ends 0 "start with an imported image: day 2, afternoon" log moved
 ends 0 "need a start from a fresh zone, this one was imported" verify moved
 ends 0 "replay: 1 call compared" verify moved
 ends 3 "exists already" import moved day.image
-head -c 5695 day.image >short
-ends 3 "is no raw image: an image has 5,696 bytes" import short.zone short
+head -c "$((image_length - 1))" day.image >short
+ends 3 "is no raw image: an image has" import short.zone short
 { cat day.image; printf '\0'; } >long
 ends 3 "is no raw image" import long.zone long
 { printf '\377'; tail -c +2 day.image; } >damaged

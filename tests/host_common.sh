@@ -2,6 +2,7 @@
 # What the tests of the host program share: a folder of their own, and counted checks.
 set -u
 here=$(cd "$(dirname "$0")/.." && pwd)
+image_length=$(sed -n 's/^#define CRZ_IMAGE_LENGTH //p' "$here/include/crz.h")
 work=$(mktemp -d)
 trap 'rm -rf "$work"' EXIT
 chmod 755 "$work"

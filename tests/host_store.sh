@@ -413,8 +413,8 @@ import os, sqlite3, sys
 base = sqlite3.connect(sys.argv[1], isolation_level=None)
 base.execute("pragma cache_size = 1")
 base.execute("begin immediate")
-base.execute("update zone set image = zeroblob(5696)")
-base.execute("update journal set answer = zeroblob(1040)")
+base.execute("update zone set image = zeroblob(length(image))")
+base.execute("update journal set answer = zeroblob(2000)")
 os._exit(9)
 END
 "$crz" new halfway >/dev/null && script 100 | "$crz" play halfway - >/dev/null
@@ -486,7 +486,7 @@ if gcc -shared -fPIC -o named.so named.c 2>/dev/null; then
     LD_PRELOAD=./named.so "$fast" new named >said 2>&1
     holds "a zone that exists there: $(cat said)" grep -qF "exists already" said
     LD_PRELOAD=./named.so "$fast" export named named.image >said 2>&1
-    holds "an image there: $(cat said)" test "$(stat -c %s named.image)" -eq 5696
+    holds "an image there: $(cat said)" test "$(stat -c %s named.image)" -eq "$image_length"
     whole named
     holds "the zone is whole" test $? -eq 0
     holds "no other file is left" test "$(echo named*)" = "named named.c named.image named.so"
@@ -569,7 +569,7 @@ caught "delete from journal where sequence = 34" \
     "line 33 of the journal is the first bad one: the image was kept with another last line"
 caught "update journal set entry = 'crz_other' where sequence = 6" "line 6 of the journal"
 caught "update journal set call = 5 where sequence = 20" "line 20 of the journal"
-caught "update zone set image = zeroblob(5696)" "every line is good, but the image is not the one after them"
+caught "update zone set image = zeroblob(length(image))" "every line is good, but the image is not the one after them"
 caught "update zone set image = cast(image as text)" "its image has another type or length"
 caught "update zone set place = 2" "it has no image"
 caught "delete from zone" "damaged"
@@ -620,13 +620,13 @@ cat >alone.py <<'END'
 import sqlite3, sys, time
 base = sqlite3.connect(sys.argv[1], isolation_level=None)
 for statement in ("pragma journal_mode = persist", "pragma synchronous = extra", "create table journal (line blob)",
-                  "create table zone (image blob)", "insert into zone values (zeroblob(5696))"):
+                  "create table zone (image blob)", "insert into zone values (zeroblob(0))"):
     base.execute(statement)
 start = time.time()
 for _ in range(500):
     base.execute("begin immediate")
     base.execute("insert into journal values (zeroblob(150))")
-    base.execute("update zone set image = randomblob(5696)")
+    base.execute("update zone set image = randomblob(?)", (int(sys.argv[2]),))
     base.execute("commit")
 print(int(500 / (time.time() - start)))
 END
@@ -634,7 +634,7 @@ script 2000 >two_thousand
 "$crz" new speed >/dev/null
 enough=no
 for round in 1 2 3 4 5; do
-    alone=$(python3 alone.py "alone.$round")
+    alone=$(python3 alone.py "alone.$round" "$image_length")
     start=$(date +%s%N)
     "$fast" play speed two_thousand >/dev/null
     rate=$((2000 * 1000 / (($(date +%s%N) - start) / 1000000 + 1)))
