@@ -34,22 +34,34 @@ inside f ok s =
       part = part-le-rest (full f) (f .confirmed) (f .paid) (f .pending) (omega (arith, I .confirmed)) (I .pending) (I .paid);
     }
 
+inside-here : (c : tie.Start) → Inside (c .args .f)
+inside-here c = inside (c .args .f) (c .pre .0) (c .pre .1)
+
+-- what the code pays is the definition's part
+part-here : (c : tie.After-part-payment) →
+    let f = c .before .before .before .before .before .args .f in
+    c .part-payment .result .0 ≡ partPayment (full f) (f .confirmed) (f .paid) (f .pending) .0
+part-here c = rw (c .part-payment .ensures, c .before .before .before .before .full-of .ensures)
+
 full-of-requires : tie.Need-full-of-requires
 full-of-requires c κs = bounds (c .args .f) (c .pre .0) .weight
 
 part-payment-requires : tie.Need-part-payment-requires
 part-payment-requires c κs =
-    let i = inside (c .before .before .before .before .args .f) (c .before .before .before .before .pre .0) (c .before .before .before .before .pre .1) in
-    rw (c .before .before .before .full-of .ensures) (omega (arith, i), c .before .before .before .before .pre .2, i .fits, omega (arith, i))
+    let i = inside-here (c .before .before .before .before) in
+    rw (c .before .before .before .full-of .ensures) (omega (arith, i), c .before .before .before .before .pre .2, omega (arith, i), omega (arith, i))
 
 cast-by-buyer : tie.Need-cast-by-buyer
-cast-by-buyer c = rw (c .before .part-payment .ensures, c .before .before .before .before .before .full-of .ensures) (omega (arith, inside (c .before .before .before .before .before .before .args .f) (c .before .before .before .before .before .before .pre .0) (c .before .before .before .before .before .before .pre .1)))
+cast-by-buyer c = omega (arith, inside-here (c .before .before .before .before .before .before), part-here (c .before))
 
 by-buyer-requires : tie.Need-by-buyer-requires
 by-buyer-requires c κs = search needs
 
 confirmed-lot-requires : tie.Need-confirmed-lot-requires
-confirmed-lot-requires c κs = rw (c .before .before .part-payment .ensures, c .before .before .before .before .before .before .full-of .ensures) (omega (arith, inside (c .before .before .before .before .before .before .before .args .f) (c .before .before .before .before .before .before .before .pre .0) (c .before .before .before .before .before .before .before .pre .1)), omega (arith, inside (c .before .before .before .before .before .before .before .args .f) (c .before .before .before .before .before .before .before .pre .0) (c .before .before .before .before .before .before .before .pre .1)))
+confirmed-lot-requires c κs =
+    let i = inside-here (c .before .before .before .before .before .before .before) in
+    let p = part-here (c .before .before) in
+    (omega (arith, i), omega (arith, i, p))
 
 with-lot-requires : tie.Need-with-lot-requires
 with-lot-requires c κs = search needs
