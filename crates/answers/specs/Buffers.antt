@@ -1,5 +1,5 @@
--- The call record and the answer buffer as bytes (01 Calls 2, Answers 1 to 3, 8). Every length is named here once; src/lib.rt has a
--- const for each.
+-- The call record and the answer buffer as bytes (01 Calls 2, Answers 1 to 3, 25). Every length and place is named here once; src/lib.rt has
+-- a const for each.
 -- Assumes nothing.
 use mathlib.Core.Bool.{Bool, cond}
 use mathlib.Core.List.{List, [], _∷_, _++_}
@@ -14,16 +14,76 @@ use Rattle.rules.specs.declared.Call.{Call}
 use Rattle.rules.specs.declared.Entry.{Entry}
 use Rattle.image.specs.Table.{table, tableBytes, runAt}
 
--- ── Lengths ────────────────────────────────────────────────────────────────────────────────────
+-- ── Places and lengths ─────────────────────────────────────────────────────────────────────────
+
+-- a call record: single bytes and three spare ones, then fields of eight and four bytes
+abbrev pub callKindPlace : ℕ
+callKindPlace = 0
+
+abbrev pub callAccountPlace : ℕ
+callAccountPlace = callKindPlace + 1
+
+abbrev pub callReceiptPlace : ℕ
+callReceiptPlace = callAccountPlace + 1
+
+abbrev pub callContractPlace : ℕ
+callContractPlace = callReceiptPlace + 1
+
+abbrev pub callDaysPlace : ℕ
+callDaysPlace = callContractPlace + 1
+
+abbrev pub callSparePlace : ℕ
+callSparePlace = callDaysPlace + 1
+
+abbrev pub callAmountPlace : ℕ
+callAmountPlace = callSparePlace + 3
+
+abbrev pub callBasisPlace : ℕ
+callBasisPlace = callAmountPlace + 8
+
+abbrev pub callWeightPlace : ℕ
+callWeightPlace = callBasisPlace + 4
 
 abbrev pub callLength : ℕ
-callLength = 24
+callLength = callWeightPlace + 4
+
+-- the header of an answer: two single bytes, the count of two, the offset of four, the total of eight
+abbrev pub answerNumberPlace : ℕ
+answerNumberPlace = 0
+
+abbrev pub answerPhasePlace : ℕ
+answerPhasePlace = answerNumberPlace + 1
+
+abbrev pub answerCountPlace : ℕ
+answerCountPlace = answerPhasePlace + 1
+
+abbrev pub answerOffsetPlace : ℕ
+answerOffsetPlace = answerCountPlace + 2
+
+abbrev pub answerTotalPlace : ℕ
+answerTotalPlace = answerOffsetPlace + 4
 
 abbrev pub answerHeader : ℕ
-answerHeader = 16
+answerHeader = answerTotalPlace + 8
+
+-- an entry: four single bytes, then its number
+abbrev pub entryLotPlace : ℕ
+entryLotPlace = 0
+
+abbrev pub entryOutcomePlace : ℕ
+entryOutcomePlace = entryLotPlace + 1
+
+abbrev pub entryFromPlace : ℕ
+entryFromPlace = entryOutcomePlace + 1
+
+abbrev pub entryToPlace : ℕ
+entryToPlace = entryFromPlace + 1
+
+abbrev pub entryNumberPlace : ℕ
+entryNumberPlace = entryToPlace + 1
 
 abbrev pub entryLength : ℕ
-entryLength = 8
+entryLength = entryNumberPlace + 4
 
 -- a header, and room for an entry of each lot
 abbrev pub answerLength : ℕ
@@ -35,15 +95,15 @@ answerLength = answerHeader + receiptCount * entryLength
 unfoldable pub callIn : List ℕ → Call
 callIn b =
     record {
-      kind = getD b 0 0;
-      account = getD b 1 0;
-      receipt = getD b 2 0;
-      contract = getD b 3 0;
-      days = getD b 4 0;
-      spare = leAt 3 b 5;
-      amount = leAt 8 b 8;
-      basis = signed32 (leAt 4 b 16);
-      weight = leAt 4 b 20;
+      kind = getD b callKindPlace 0;
+      account = getD b callAccountPlace 0;
+      receipt = getD b callReceiptPlace 0;
+      contract = getD b callContractPlace 0;
+      days = getD b callDaysPlace 0;
+      spare = leAt 3 b callSparePlace;
+      amount = leAt 8 b callAmountPlace;
+      basis = signed32 (leAt 4 b callBasisPlace);
+      weight = leAt 4 b callWeightPlace;
     }
 
 -- a call of no kind, which number 3 refuses
@@ -65,6 +125,7 @@ entryBytes e = e .lot ∷ e .outcome ∷ e .from ∷ e .to ∷ leBytes 4 (e .num
 unfoldable pub headerOf : Bool → ℕ → ℕ → List ℕ
 headerOf afternoon count total = 0 ∷ cond afternoon 1 0 ∷ leBytes 2 count ++ leBytes 4 answerHeader ++ leBytes 8 total
 
+-- header and entries
 unfoldable pub acceptedBytes : Zone → List Entry → List ℕ
 acceptedBytes z es = headerOf (z .afternoon) (length es) (z .total .0) ++ tableBytes entryBytes es
 
@@ -77,14 +138,23 @@ padded bytes old = bytes ++ replicate (answerLength - length bytes) 0 ++ drop an
 abbrev pub refusedAnswer : ℕ → List ℕ → List ℕ
 refusedAnswer n old = padded (n ∷ []) old
 
+-- of an accepted call: its header and entries, on the zone after it
 abbrev pub acceptedAnswer : Zone → List Entry → List ℕ → List ℕ
 acceptedAnswer z es old = padded (acceptedBytes z es) old
 
 -- ── What a host reads in an answer ─────────────────────────────────────────────────────────────
 
+-- an entry of its bytes
 unfoldable pub entryIn : List ℕ → Entry
-entryIn b = record { lot = getD b 0 0; outcome = getD b 1 0; from = getD b 2 0; to = getD b 3 0; number = leAt 4 b 4 }
+entryIn b =
+    record {
+      lot = getD b entryLotPlace 0;
+      outcome = getD b entryOutcomePlace 0;
+      from = getD b entryFromPlace 0;
+      to = getD b entryToPlace 0;
+      number = leAt 4 b entryNumberPlace;
+    }
 
 -- as many as the answer says, from where it says on
 unfoldable pub entriesIn : List ℕ → List Entry
-entriesIn answer = table (leAt 2 answer 2) (λ i. entryIn (runAt (leAt 4 answer 4) entryLength answer i))
+entriesIn answer = table (leAt 2 answer answerCountPlace) (λ i. entryIn (runAt (leAt 4 answer answerOffsetPlace) entryLength answer i))

@@ -6,7 +6,7 @@ use mathlib.Core.Path.{_≡_, refl}
 use Prim.Native.Nat.{ℕ, zero, suc}
 use lib.Dec.{eqb, leb, leb·zero, leb·suc-zero, eqb·suc-zero}
 use lib.IntN.{pos}
-use Rattle.units.specs.Ranges.{isZero, isAccount, isReceipt, isContract, isDays, isPrice, isBasis, isWeight, isAmount}
+use Rattle.units.specs.Ranges.{isZero, isAccount, isReceipt, isContract, isDays, isPrice, isAsk, isBasis, isWeight, isAmount}
 use Rattle.rules.specs.declared.Call.{Call}
 use Rattle.rules.specs.Laws.EveryKind.{no-kind, each-kind, every-kind}
 use Rattle.rules.specs.Numbers.{Field, brackets, isUsed, unusedZero, values, inRange}
@@ -60,7 +60,7 @@ module _ (c : Call) where
       && (not (eqb k 4) || isDays (c .days))
       && (not (eqb k 1 || eqb k 2 || eqb k 13) || isAmount (c .amount))
       && (not (eqb k 6) || isPrice (c .amount))
-      && (not (eqb k 9) || (eqb (c .amount) 0 || isPrice (c .amount)))
+      && (not (eqb k 9) || isAsk (c .amount))
       && (not (eqb k 4) || isBasis (c .basis))
       && (not (eqb k 3) || isWeight (c .weight))
 

@@ -68,14 +68,13 @@ pub fn in_range(c: Call) -> bool
     let kind = c.kind;
     let amount = c.amount;
     let money = (kind == KIND_PAY_IN) | (kind == KIND_TAKE_OUT) | (kind == KIND_INVOICE);
-    let price = units::is_price(amount);
     (!uses_account(kind) | units::is_account(c.account))
         & (!uses_receipt(kind) | units::is_receipt(c.receipt))
         & (!uses_contract(kind) | units::is_contract(c.contract))
         & ((kind != KIND_LIST) | units::is_days(c.days))
         & (!money | units::is_amount(amount))
-        & ((kind != KIND_LIMIT_BID) | price)
-        & ((kind != KIND_QUOTE) | ((amount == 0) | price))
+        & ((kind != KIND_LIMIT_BID) | units::is_price(amount))
+        & ((kind != KIND_QUOTE) | units::is_ask(amount))
         & ((kind != KIND_LIST) | units::is_basis(c.basis))
         & ((kind != KIND_REGISTER) | units::is_weight(c.weight))
 }

@@ -5,23 +5,29 @@ ghost use lib.ListN.{length, take};
 ghost use lib.Seq.{sets};
 ghost use Rattle.zone.specs.Valid.{noReceipt, freshZone};
 ghost use Rattle.image.specs.Table.{tableBytes};
-ghost use Rattle.image.specs.Layout.{imageLength, accountStart, contractStart, receiptStart, phaseAt, headerBytes, accountBytes, askBytes, receiptBytes};
+ghost use Rattle.image.specs.Layout.{imageLength, accountStart, contractStart, receiptStart, phasePlace, headerBytes, accountBytes, askBytes, receiptBytes};
 ghost use Rattle.image.specs.Image.{encode};
+use image::ACCOUNT_COUNT_PLACE;
 use image::ACCOUNT_LENGTH;
 use image::ACCOUNT_START;
+use image::ACCOUNT_START_PLACE;
 use image::ASK_LENGTH;
+use image::CONTRACT_COUNT_PLACE;
 use image::CONTRACT_START;
-use image::DAY_AT;
+use image::CONTRACT_START_PLACE;
+use image::DAY_PLACE;
 use image::HEADER_ACCOUNT_START;
 use image::HEADER_ACCOUNTS;
 use image::HEADER_CONTRACT_START;
 use image::HEADER_CONTRACTS;
 use image::HEADER_RECEIPT_START;
 use image::HEADER_RECEIPTS;
-use image::PHASE_AT;
+use image::PHASE_PLACE;
+use image::RECEIPT_COUNT_PLACE;
 use image::RECEIPT_LENGTH;
 use image::RECEIPT_START;
-use image::TOTAL_AT;
+use image::RECEIPT_START_PLACE;
+use image::TOTAL_PLACE;
 use units::ACCOUNTS;
 use units::CONTRACTS;
 use units::Fen;
@@ -65,15 +71,15 @@ pub fn fresh_zone() -> Zone
 // Counts, day and starts.
 fn put_counts(image: &mut [u8], day: u16)
     requires { ⌜ length (now image) ≡ imageLength ⌝ }
-    ensures { λ _. ⌜ now (image .exit) ≡ sets (now (image .entry)) 0 (take phaseAt (headerBytes day false 0)) ⌝ }
+    ensures { λ _. ⌜ now (image .exit) ≡ sets (now (image .entry)) 0 (take phasePlace (headerBytes day false 0)) ⌝ }
 {
-    wire::put_u16(image, 0, HEADER_ACCOUNTS);
-    wire::put_u16(image, 2, HEADER_RECEIPTS);
-    wire::put_u16(image, 4, HEADER_CONTRACTS);
-    wire::put_u16(image, DAY_AT, day);
-    wire::put_u32(image, 8, HEADER_ACCOUNT_START);
-    wire::put_u32(image, 12, HEADER_CONTRACT_START);
-    wire::put_u32(image, 16, HEADER_RECEIPT_START);
+    wire::put_u16(image, ACCOUNT_COUNT_PLACE, HEADER_ACCOUNTS);
+    wire::put_u16(image, RECEIPT_COUNT_PLACE, HEADER_RECEIPTS);
+    wire::put_u16(image, CONTRACT_COUNT_PLACE, HEADER_CONTRACTS);
+    wire::put_u16(image, DAY_PLACE, day);
+    wire::put_u32(image, ACCOUNT_START_PLACE, HEADER_ACCOUNT_START);
+    wire::put_u32(image, CONTRACT_START_PLACE, HEADER_CONTRACT_START);
+    wire::put_u32(image, RECEIPT_START_PLACE, HEADER_RECEIPT_START);
 }
 
 fn put_header(image: &mut [u8], day: u16, afternoon: bool, total: Fen)
@@ -82,8 +88,8 @@ fn put_header(image: &mut [u8], day: u16, afternoon: bool, total: Fen)
 {
     put_counts(image, day);
     let phase = [image::phase(afternoon), 0, 0, 0];
-    wire::put_run(image, PHASE_AT, &phase);
-    wire::put_u64(image, TOTAL_AT, total.0);
+    wire::put_run(image, PHASE_PLACE, &phase);
+    wire::put_u64(image, TOTAL_PLACE, total.0);
 }
 
 fn put_accounts(image: &mut [u8], a: [Account; ACCOUNTS])

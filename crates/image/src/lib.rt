@@ -18,13 +18,61 @@ use zone::Record;
 
 // ── Lengths, starts and places, named as in Layout ──────────────────────────────────────────────
 
-pub const HEADER_LENGTH: usize = 32;
+pub const ACCOUNT_COUNT_PLACE: usize = 0;
 
-pub const ACCOUNT_LENGTH: usize = 16;
+pub const RECEIPT_COUNT_PLACE: usize = ACCOUNT_COUNT_PLACE + 2;
+
+pub const CONTRACT_COUNT_PLACE: usize = RECEIPT_COUNT_PLACE + 2;
+
+pub const DAY_PLACE: usize = CONTRACT_COUNT_PLACE + 2;
+
+pub const ACCOUNT_START_PLACE: usize = DAY_PLACE + 2;
+
+pub const CONTRACT_START_PLACE: usize = ACCOUNT_START_PLACE + 4;
+
+pub const RECEIPT_START_PLACE: usize = CONTRACT_START_PLACE + 4;
+
+pub const PHASE_PLACE: usize = RECEIPT_START_PLACE + 4;
+
+pub const TOTAL_PLACE: usize = PHASE_PLACE + 4;
+
+pub const HEADER_LENGTH: usize = TOTAL_PLACE + 8;
+
+pub const FREE_PLACE: usize = 0;
+
+pub const FROZEN_PLACE: usize = FREE_PLACE + 8;
+
+pub const ACCOUNT_LENGTH: usize = FROZEN_PLACE + 8;
 
 pub const ASK_LENGTH: usize = 4;
 
-pub const RECEIPT_LENGTH: usize = 32;
+pub const OWNER_PLACE: usize = 0;
+
+pub const STATE_PLACE: usize = OWNER_PLACE + 1;
+
+pub const SELLER_PLACE: usize = STATE_PLACE + 1;
+
+pub const BUYER_PLACE: usize = SELLER_PLACE + 1;
+
+pub const CONTRACT_PLACE: usize = BUYER_PLACE + 1;
+
+pub const DAYS_PLACE: usize = CONTRACT_PLACE + 1;
+
+pub const DUE_PLACE: usize = DAYS_PLACE + 1;
+
+pub const WEIGHT_PLACE: usize = DUE_PLACE + 2;
+
+pub const BASIS_PLACE: usize = WEIGHT_PLACE + 4;
+
+pub const PRICE_PLACE: usize = BASIS_PLACE + 4;
+
+pub const PENDING_PLACE: usize = PRICE_PLACE + 4;
+
+pub const CONFIRMED_PLACE: usize = PENDING_PLACE + 4;
+
+pub const PAID_PLACE: usize = CONFIRMED_PLACE + 4;
+
+pub const RECEIPT_LENGTH: usize = PAID_PLACE + 4;
 
 pub const ACCOUNT_START: usize = HEADER_LENGTH;
 
@@ -47,19 +95,10 @@ pub const HEADER_CONTRACT_START: u32 = CONTRACT_START as u32;
 
 pub const HEADER_RECEIPT_START: u32 = RECEIPT_START as u32;
 
-pub const DAY_AT: usize = 6;
+// State and contract of the first receipt.
+const FIRST_STATE: usize = RECEIPT_START + STATE_PLACE;
 
-pub const PHASE_AT: usize = 20;
-
-pub const TOTAL_AT: usize = 24;
-
-const STATE_AT: usize = 1;
-
-const CONTRACT_AT: usize = 4;
-
-const FIRST_STATE: usize = RECEIPT_START + STATE_AT;
-
-const FIRST_CONTRACT: usize = RECEIPT_START + CONTRACT_AT;
+const FIRST_CONTRACT: usize = RECEIPT_START + CONTRACT_PLACE;
 
 // ── A part, read where it stands ────────────────────────────────────────────────────────────────
 
@@ -67,21 +106,21 @@ pub fn day_in(image: &[u8]) -> u16
     requires { ⌜ length (now image) ≡ imageLength ⌝ }
     ensures { λ r. ⌜ r ≡ dayIn (now (image .entry)) ⌝ }
 {
-    wire::get_u16(image, DAY_AT)
+    wire::get_u16(image, DAY_PLACE)
 }
 
 pub fn afternoon_in(image: &[u8]) -> bool
     requires { ⌜ length (now image) ≡ imageLength ⌝ }
     ensures { λ r. ⌜ r ≡ afternoonIn (now (image .entry)) ⌝ }
 {
-    image[PHASE_AT] == 1
+    image[PHASE_PLACE] == 1
 }
 
 pub fn total_in(image: &[u8]) -> Fen
     requires { ⌜ length (now image) ≡ imageLength ⌝ }
     ensures { λ r. ⌜ r ≡ fen (totalIn (now (image .entry))) ⌝ }
 {
-    Fen(wire::get_u64(image, TOTAL_AT))
+    Fen(wire::get_u64(image, TOTAL_PLACE))
 }
 
 fn account_in(s: &[u8]) -> Account
@@ -89,8 +128,8 @@ fn account_in(s: &[u8]) -> Account
     ensures { λ r. ⌜ r ≡ accountIn (now (s .entry)) ⌝ }
 {
     Account {
-        free: Fen(wire::get_u64(s, 0)),
-        frozen: Fen(wire::get_u64(s, 8)),
+        free: Fen(wire::get_u64(s, FREE_PLACE)),
+        frozen: Fen(wire::get_u64(s, FROZEN_PLACE)),
     }
 }
 
@@ -114,20 +153,20 @@ fn record_in(s: &[u8]) -> Record
     requires { ⌜ length (now s) ≡ receiptLength ⌝ }
     ensures { λ r. ⌜ r ≡ recordIn (now (s .entry)) ⌝ }
 {
-    let due = wire::get_u16(s, 6);
-    let weight = wire::get_u32(s, 8);
-    let basis = wire::get_i32(s, 12);
-    let price = wire::get_u32(s, 16);
-    let pending = wire::get_u32(s, 20) as u64;
-    let confirmed = wire::get_u32(s, 24) as u64;
-    let paid = wire::get_u32(s, 28) as u64;
+    let due = wire::get_u16(s, DUE_PLACE);
+    let weight = wire::get_u32(s, WEIGHT_PLACE);
+    let basis = wire::get_i32(s, BASIS_PLACE);
+    let price = wire::get_u32(s, PRICE_PLACE);
+    let pending = wire::get_u32(s, PENDING_PLACE) as u64;
+    let confirmed = wire::get_u32(s, CONFIRMED_PLACE) as u64;
+    let paid = wire::get_u32(s, PAID_PLACE) as u64;
     Record {
-        owner: s[0],
-        state: s[STATE_AT],
-        seller: s[2],
-        buyer: s[3],
-        contract: s[CONTRACT_AT],
-        days: s[5],
+        owner: s[OWNER_PLACE],
+        state: s[STATE_PLACE],
+        seller: s[SELLER_PLACE],
+        buyer: s[BUYER_PLACE],
+        contract: s[CONTRACT_PLACE],
+        days: s[DAYS_PLACE],
         due: due,
         weight: Kilograms(weight),
         basis: Basis(basis),

@@ -9,23 +9,23 @@ use lib.Seq.{sets}
 use Rattle.wire.specs.LittleEndian.{leBytes, bits32}
 use Rattle.wire.specs.Laws.Bytes.{run-behind, leBytes-mod}
 use Rattle.zone.specs.declared.Record.{Record}
-use Rattle.image.specs.Layout.{recordBytes}
+use Rattle.image.specs.Layout.{duePlace, weightPlace, basisPlace, pricePlace, pendingPlace, confirmedPlace, paidPlace, recordBytes}
 
 module _ (at : ℕ) (r : Record) where
   abbrev single : List ℕ
   single = r .owner ∷ r .state ∷ r .seller ∷ r .buyer ∷ r .contract ∷ r .days ∷ []
 
   -- single bytes, due day, weight and basis
-  pub start : (s : List ℕ) {s₁ s₂ s₃ s₄ : List ℕ} (basis : ℤ) → basis ≡ r .basis .0 → s₁ ≡ sets s at single → s₂ ≡ sets s₁ (at + 6) (leBytes 2 (r .due))
-      → s₃ ≡ sets s₂ (at + 8) (leBytes 4 (r .weight .0)) → s₄ ≡ sets s₃ (at + 12) (leBytes 4 (bits32 basis))
-      → s₄ ≡ sets s at (take 16 (recordBytes r))
+  pub start : (s : List ℕ) {s₁ s₂ s₃ s₄ : List ℕ} (basis : ℤ) → basis ≡ r .basis .0 → s₁ ≡ sets s at single → s₂ ≡ sets s₁ (at + duePlace) (leBytes 2 (r .due))
+      → s₃ ≡ sets s₂ (at + weightPlace) (leBytes 4 (r .weight .0)) → s₄ ≡ sets s₃ (at + basisPlace) (leBytes 4 (bits32 basis))
+      → s₄ ≡ sets s at (take pricePlace (recordBytes r))
   unfolding recordBytes leBytes
   start s {s₁} {s₂} {s₃} b k e f g h =
       let due = leBytes 2 (r .due) in
       let weight = leBytes 4 (r .weight .0) in
-      run-behind s at (single ++ due ++ weight) (leBytes 4 (bits32 (r .basis .0))) 12 refl
-      (run-behind s at (single ++ due) weight 8 refl (run-behind s at single due 6 refl e f) g)
-      (h ∙ ap (λ (x : ℤ). sets s₃ (at + 12) (leBytes 4 (bits32 x))) k)
+      run-behind s at (single ++ due ++ weight) (leBytes 4 (bits32 (r .basis .0))) basisPlace refl
+      (run-behind s at (single ++ due) weight weightPlace refl (run-behind s at single due duePlace refl e f) g)
+      (h ∙ ap (λ (x : ℤ). sets s₃ (at + basisPlace) (leBytes 4 (bits32 x))) k)
 
   -- the four lowest bytes of an amount
   low : (t : List ℕ) {u : List ℕ} (k n m : ℕ) → m ≡ n % 4294967296 → u ≡ sets t k (leBytes 4 m) → u ≡ sets t k (leBytes 4 n)
@@ -33,17 +33,17 @@ module _ (at : ℕ) (r : Record) where
 
   -- then price, pending, confirmed and paid
   pub whole : (s : List ℕ) {s₁ s₂ s₃ s₄ s₅ : List ℕ} (pending confirmed paid : ℕ) → pending ≡ r .pending .0 % 4294967296 → confirmed ≡ r .confirmed .0 % 4294967296
-      → paid ≡ r .paid .0 % 4294967296 → s₁ ≡ sets s at (take 16 (recordBytes r)) → s₂ ≡ sets s₁ (at + 16) (leBytes 4 (r .price .0))
-      → s₃ ≡ sets s₂ (at + 20) (leBytes 4 pending) → s₄ ≡ sets s₃ (at + 24) (leBytes 4 confirmed)
-      → s₅ ≡ sets s₄ (at + 28) (leBytes 4 paid) → s₅ ≡ sets s at (recordBytes r)
+      → paid ≡ r .paid .0 % 4294967296 → s₁ ≡ sets s at (take pricePlace (recordBytes r)) → s₂ ≡ sets s₁ (at + pricePlace) (leBytes 4 (r .price .0))
+      → s₃ ≡ sets s₂ (at + pendingPlace) (leBytes 4 pending) → s₄ ≡ sets s₃ (at + confirmedPlace) (leBytes 4 confirmed)
+      → s₅ ≡ sets s₄ (at + paidPlace) (leBytes 4 paid) → s₅ ≡ sets s at (recordBytes r)
   unfolding recordBytes leBytes
   whole s {s₁} {s₂} {s₃} {s₄} a b c p q v e f g h i =
-      let first = take 16 (recordBytes r) in
+      let first = take pricePlace (recordBytes r) in
       let price = leBytes 4 (r .price .0) in
       let pending = leBytes 4 (r .pending .0) in
       let confirmed = leBytes 4 (r .confirmed .0) in
-      run-behind s at (first ++ price ++ pending ++ confirmed) (leBytes 4 (r .paid .0)) 28 refl
-      (run-behind s at (first ++ price ++ pending) confirmed 24 refl
-      (run-behind s at (first ++ price) pending 20 refl (run-behind s at first price 16 refl e f) (low s₂ (at + 20) (r .pending .0) a p g))
-      (low s₃ (at + 24) (r .confirmed .0) b q h))
-      (low s₄ (at + 28) (r .paid .0) c v i)
+      run-behind s at (first ++ price ++ pending ++ confirmed) (leBytes 4 (r .paid .0)) paidPlace refl
+      (run-behind s at (first ++ price ++ pending) confirmed confirmedPlace refl
+      (run-behind s at (first ++ price) pending pendingPlace refl (run-behind s at first price pricePlace refl e f) (low s₂ (at + pendingPlace) (r .pending .0) a p g))
+      (low s₃ (at + confirmedPlace) (r .confirmed .0) b q h))
+      (low s₄ (at + paidPlace) (r .paid .0) c v i)

@@ -6,17 +6,25 @@ ghost use lib.Seq.{sets};
 ghost use Rattle.units.specs.Ranges.{accountCount, receiptCount, contractCount};
 ghost use Rattle.zone.specs.Valid.{noAsks};
 ghost use Rattle.zone.specs.Parts.{withClock, withAsks, withAccounts, withReceipts, withTotal};
-ghost use Rattle.image.specs.Layout.{accountLength, receiptLength, recordBytes, accountBytes};
+ghost use Rattle.image.specs.Layout.{accountLength, receiptLength, pricePlace, recordBytes, accountBytes};
 ghost use Rattle.image.specs.Image.{decode, encode, Encoded};
 use image::ACCOUNT_LENGTH;
 use image::ACCOUNT_START;
 use image::ASK_LENGTH;
+use image::BASIS_PLACE;
+use image::CONFIRMED_PLACE;
 use image::CONTRACT_START;
-use image::DAY_AT;
-use image::PHASE_AT;
+use image::DAY_PLACE;
+use image::DUE_PLACE;
+use image::FROZEN_PLACE;
+use image::PAID_PLACE;
+use image::PENDING_PLACE;
+use image::PHASE_PLACE;
+use image::PRICE_PLACE;
 use image::RECEIPT_LENGTH;
 use image::RECEIPT_START;
-use image::TOTAL_AT;
+use image::TOTAL_PLACE;
+use image::WEIGHT_PLACE;
 use units::CONTRACTS;
 use units::Fen;
 use units::YuanPerTonne;
@@ -31,19 +39,19 @@ pub fn account_run(image: &mut [u8], at: usize, a: Account)
     ensures { λ _. ⌜ now (image .exit) ≡ sets (now (image .entry)) at (accountBytes a) ⌝ }
 {
     wire::put_u64(image, at, a.free.0);
-    wire::put_u64(image, at + 8, a.frozen.0);
+    wire::put_u64(image, at + FROZEN_PLACE, a.frozen.0);
 }
 
 // A record's single bytes, due day, weight and basis.
 fn record_start(image: &mut [u8], at: usize, r: Record)
     requires { ⌜ at + receiptLength ≤ length (now image) ⌝ }
-    ensures { λ _. ⌜ now (image .exit) ≡ sets (now (image .entry)) at (take 16 (recordBytes r)) ⌝ }
+    ensures { λ _. ⌜ now (image .exit) ≡ sets (now (image .entry)) at (take pricePlace (recordBytes r)) ⌝ }
 {
     let single = [r.owner, r.state, r.seller, r.buyer, r.contract, r.days];
     wire::put_run(image, at, &single);
-    wire::put_u16(image, at + 6, r.due);
-    wire::put_u32(image, at + 8, r.weight.0);
-    wire::put_i32(image, at + 12, r.basis.0);
+    wire::put_u16(image, at + DUE_PLACE, r.due);
+    wire::put_u32(image, at + WEIGHT_PLACE, r.weight.0);
+    wire::put_i32(image, at + BASIS_PLACE, r.basis.0);
 }
 
 // Four bytes of an amount; more than four no valid record has.
@@ -58,10 +66,10 @@ pub fn record_run(image: &mut [u8], at: usize, r: Record)
     ensures { λ _. ⌜ now (image .exit) ≡ sets (now (image .entry)) at (recordBytes r) ⌝ }
 {
     record_start(image, at, r);
-    wire::put_u32(image, at + 16, r.price.0);
-    wire::put_u32(image, at + 20, low_half(r.pending));
-    wire::put_u32(image, at + 24, low_half(r.confirmed));
-    wire::put_u32(image, at + 28, low_half(r.paid));
+    wire::put_u32(image, at + PRICE_PLACE, r.price.0);
+    wire::put_u32(image, at + PENDING_PLACE, low_half(r.pending));
+    wire::put_u32(image, at + CONFIRMED_PLACE, low_half(r.confirmed));
+    wire::put_u32(image, at + PAID_PLACE, low_half(r.paid));
 }
 
 // ── Parts of a zone ─────────────────────────────────────────────────────────────────────────────
@@ -70,15 +78,15 @@ pub fn clock(image: &mut [u8], day: u16, afternoon: bool)
     requires { ⌜ Encoded (now image) ⌝ }
     ensures { λ _. ⌜ now (image .exit) ≡ encode (withClock (decode (now (image .entry))) day afternoon) ⌝ }
 {
-    wire::put_u16(image, DAY_AT, day);
-    image[PHASE_AT] = image::phase(afternoon);
+    wire::put_u16(image, DAY_PLACE, day);
+    image[PHASE_PLACE] = image::phase(afternoon);
 }
 
 pub fn total(image: &mut [u8], total: Fen)
     requires { ⌜ Encoded (now image) ⌝ }
     ensures { λ _. ⌜ now (image .exit) ≡ encode (withTotal (decode (now (image .entry))) total) ⌝ }
 {
-    wire::put_u64(image, TOTAL_AT, total.0);
+    wire::put_u64(image, TOTAL_PLACE, total.0);
 }
 
 pub fn account(image: &mut [u8], k: usize, a: Account)

@@ -206,15 +206,19 @@ opening c z =
     row (c .kind) asIs ((1 ∷ [], payIn) ∷ (2 ∷ [], takeOut) ∷ (9 ∷ [], setAsk) ∷ []) c z
 
 -- the kinds that go through all lots: quote, morning close, day close
+abbrev pub sweepKinds : List ℕ
+sweepKinds = 9 ∷ 11 ∷ 15 ∷ []
+
+-- a kind is one of these
 abbrev pub sweeps : ℕ → Bool
-sweeps kind = among kind (9 ∷ 11 ∷ 15 ∷ [])
+sweeps kind = among kind sweepKinds
 
 -- the first lot of a call, and how many: all, none for kinds 1 and 2, else the one that the call names
 unfoldable pub firstLot : Call → ℕ
-firstLot c = row (c .kind) (c .receipt) ((9 ∷ 11 ∷ 15 ∷ [], 1) ∷ [])
+firstLot c = row (c .kind) (c .receipt) ((sweepKinds, 1) ∷ [])
 
 unfoldable pub lotCount : Call → ℕ
-lotCount c = row (c .kind) 1 ((1 ∷ 2 ∷ [], 0) ∷ (9 ∷ 11 ∷ 15 ∷ [], receiptCount) ∷ [])
+lotCount c = row (c .kind) 1 ((1 ∷ 2 ∷ [], 0) ∷ (sweepKinds, receiptCount) ∷ [])
 
 -- 11 goes on to the afternoon; 15 clears the asks and goes on to the morning of the next day
 unfoldable pub ending : Call → Zone → Zone

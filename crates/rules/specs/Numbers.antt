@@ -7,7 +7,7 @@ use Prim.Native.Nat.{ℕ, zero, suc, _+_}
 use lib.Dec.{eqb, ltb}
 use lib.IntN.{ℤ, pos, negsuc}
 use Rattle.units.specs.Payments.{payable, deposit}
-use Rattle.units.specs.Ranges.{within, isZero, isAccount, isReceipt, isContract, isDays, isPrice, isBasis, isWeight, isAmount, moneyLimit, lastDay}
+use Rattle.units.specs.Ranges.{within, isZero, isAccount, isReceipt, isContract, isDays, isPrice, isAsk, isBasis, isWeight, isAmount, moneyLimit, lastDay}
 use Rattle.zone.specs.declared.Record.{Record}
 use Rattle.zone.specs.Held.{full, heldBy}
 use Rattle.rules.specs.declared.Call.{Call}
@@ -51,7 +51,7 @@ abbrev pub price : Field
 price = record { place = 4; range = natural isPrice }
 
 abbrev pub priceOr0 : Field
-priceOr0 = record { place = 4; range = natural (λ n. eqb n 0 || isPrice n) }
+priceOr0 = record { place = 4; range = natural isAsk }
 
 abbrev pub basis : Field
 basis = record { place = 5; range = isBasis }

@@ -1,7 +1,7 @@
 -- The ranges of the numbers in calls and records (01 Image 17), and how many accounts, receipts and contracts a
 -- zone has.
 -- Assumes nothing.
-use mathlib.Core.Bool.{Bool, _&&_}
+use mathlib.Core.Bool.{Bool, _&&_, _||_}
 use Prim.Native.Nat.{ℕ, _-_, _%_, _^_}
 use lib.Dec.{eqb, leb}
 use lib.IntN.{ℤ, pos, negsuc}
@@ -49,6 +49,11 @@ mostPrice = 200000
 abbrev pub isPrice : ℕ → Bool
 isPrice n = within 5 mostPrice n && eqb (n % 5) 0
 
+-- the best sell price of a contract: none, or a price (01 Image 3, 15)
+abbrev pub isAsk : ℕ → Bool
+isAsk n = eqb n 0 || isPrice n
+
+-- the ends of a basis
 abbrev pub mostBasis : ℕ
 mostBasis = 50000
 

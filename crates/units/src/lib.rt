@@ -1,7 +1,7 @@
 // Yuan per tonne, fen and kilograms as types, the ranges of numbers, and the money of a trade.
 ghost use mathlib.Core.Path.{_≡_};
 ghost use Prim.Native.Nat.{_+_, _≤_, _<_, _^_};
-ghost use Rattle.units.specs.Ranges.{isZero, isAccount, isReceipt, isContract, isDays, isPrice, mostWeight, isBasis, isWeight, isAmount};
+ghost use Rattle.units.specs.Ranges.{isZero, isAccount, isReceipt, isContract, isDays, isPrice, isAsk, mostWeight, isBasis, isWeight, isAmount};
 ghost use Rattle.units.specs.Payments.{unitPrice, atLeast0, payable, fullPayment, firstPayment, restPayment, partPayment, deposit, penaltyPassed};
 
 // A price: whole yuan per tonne.
@@ -70,6 +70,13 @@ pub fn is_price(x: u64) -> bool
     ensures { λ r. ⌜ r ≡ isPrice x ⌝ }
 {
     (5 <= x) & (x <= 200000) & (x % 5 == 0)
+}
+
+// None, or a price.
+pub fn is_ask(x: u64) -> bool
+    ensures { λ r. ⌜ r ≡ isAsk x ⌝ }
+{
+    (x == 0) | is_price(x)
 }
 
 pub fn is_basis(x: i32) -> bool

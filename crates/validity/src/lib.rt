@@ -182,7 +182,7 @@ pub fn record_ok(r: Record) -> bool
 pub fn ask_ok(ask: YuanPerTonne) -> bool
     ensures { λ x. ⌜ x ≡ askOk ask ⌝ }
 {
-    (ask.0 == 0) | units::is_price(ask.0 as u64)
+    units::is_ask(ask.0 as u64)
 }
 
 // ── What a lot holds ────────────────────────────────────────────────────────────────────────────

@@ -10,6 +10,10 @@ ghost use Rattle.zone.specs.Valid.{recordValid, askOk, all};
 ghost use Rattle.image.specs.Layout.{imageLength, headerOk, asksIn, accountsIn, recordsIn};
 ghost use Rattle.image.specs.Image.{validImage};
 ghost use Rattle.verdict.specs.Sums.{noHold, heldSums, moneyUpTo, frozenMatches};
+use image::ACCOUNT_COUNT_PLACE;
+use image::ACCOUNT_START_PLACE;
+use image::CONTRACT_COUNT_PLACE;
+use image::CONTRACT_START_PLACE;
 use image::HEADER_ACCOUNT_START;
 use image::HEADER_ACCOUNTS;
 use image::HEADER_CONTRACT_START;
@@ -17,7 +21,9 @@ use image::HEADER_CONTRACTS;
 use image::HEADER_RECEIPT_START;
 use image::HEADER_RECEIPTS;
 use image::IMAGE_LENGTH;
-use image::PHASE_AT;
+use image::PHASE_PLACE;
+use image::RECEIPT_COUNT_PLACE;
+use image::RECEIPT_START_PLACE;
 use units::ACCOUNTS;
 use units::CONTRACTS;
 use units::Fen;
@@ -33,21 +39,28 @@ const PLACES: usize = ACCOUNTS + 1;
 // One fen above the limit: what a sum that passes the limit is cut to.
 const ABOVE_LIMIT: u64 = MONEY_LIMIT + 1;
 
+// The zero bytes behind the phase.
+const FIRST_ZERO: usize = PHASE_PLACE + 1;
+
+const SECOND_ZERO: usize = PHASE_PLACE + 2;
+
+const THIRD_ZERO: usize = PHASE_PLACE + 3;
+
 // Counts, starts, phase and the three zero bytes.
 fn header_ok(image: &[u8]) -> bool
     requires { ⌜ length (now image) ≡ imageLength ⌝ }
     ensures { λ r. ⌜ r ≡ headerOk (now (image .entry)) ⌝ }
 {
-    (wire::get_u16(image, 0) == HEADER_ACCOUNTS)
-        & (wire::get_u16(image, 2) == HEADER_RECEIPTS)
-        & (wire::get_u16(image, 4) == HEADER_CONTRACTS)
-        & (wire::get_u32(image, 8) == HEADER_ACCOUNT_START)
-        & (wire::get_u32(image, 12) == HEADER_CONTRACT_START)
-        & (wire::get_u32(image, 16) == HEADER_RECEIPT_START)
-        & (image[PHASE_AT] <= 1)
-        & (image[21] == 0)
-        & (image[22] == 0)
-        & (image[23] == 0)
+    (wire::get_u16(image, ACCOUNT_COUNT_PLACE) == HEADER_ACCOUNTS)
+        & (wire::get_u16(image, RECEIPT_COUNT_PLACE) == HEADER_RECEIPTS)
+        & (wire::get_u16(image, CONTRACT_COUNT_PLACE) == HEADER_CONTRACTS)
+        & (wire::get_u32(image, ACCOUNT_START_PLACE) == HEADER_ACCOUNT_START)
+        & (wire::get_u32(image, CONTRACT_START_PLACE) == HEADER_CONTRACT_START)
+        & (wire::get_u32(image, RECEIPT_START_PLACE) == HEADER_RECEIPT_START)
+        & (image[PHASE_PLACE] <= 1)
+        & (image[FIRST_ZERO] == 0)
+        & (image[SECOND_ZERO] == 0)
+        & (image[THIRD_ZERO] == 0)
 }
 
 // Whether each ask is none or a price.

@@ -9,7 +9,7 @@ use lib.ListN.{length, replicate}
 use Rattle.units.specs.declared.Fen.{Fen}
 use Rattle.units.specs.declared.YuanPerTonne.{YuanPerTonne}
 use Rattle.units.specs.Payments.{fen, payable}
-use Rattle.units.specs.Ranges.{within, isZero, accountCount, receiptCount, contractCount, isAccount, isContract, isDays, isPrice, isBasis, isWeight, moneyLimit, lastDay, lastDue}
+use Rattle.units.specs.Ranges.{within, isZero, accountCount, receiptCount, contractCount, isAccount, isContract, isDays, isPrice, isAsk, isBasis, isWeight, moneyLimit, lastDay, lastDue}
 use Rattle.zone.specs.declared.Account.{Account}
 use Rattle.zone.specs.declared.Lot.the-variants.{Idle}
 use Rattle.zone.specs.declared.Receipt.{Receipt}
@@ -87,9 +87,9 @@ unfoldable pub all : {A : Type 0} → (A → Bool) → List A → Bool
 all f [] = true
 all f (x ∷ xs) = f x && all f xs
 
--- an ask is none or has the range of prices
+-- an ask is none or has the range of prices, whether a bid has that price or not
 unfoldable pub askOk : YuanPerTonne → Bool
-askOk ask = eqb (ask .0) 0 || isPrice (ask .0)
+askOk ask = isAsk (ask .0)
 
 module _ {A : Type 0} (rec : A → Record) where
   -- frozen money of each account is the sum that the lots hold from it; the accounts count from x

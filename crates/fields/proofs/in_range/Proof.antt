@@ -11,9 +11,6 @@ use Rattle.fields.proofs.in_range.Tie as tie
 kept : (c : tie.Start) → toZ w32 (ofZ w32 (c .args .c .basis)) ≡ c .args .c .basis
 kept c = toZ-ofZ (search needs)
 
-is-price-requires : tie.Need-is-price-requires
-is-price-requires c κs = search needs
-
 uses-account-requires : tie.Need-uses-account-requires
 uses-account-requires c κs = search needs
 
@@ -38,6 +35,12 @@ is-days-requires c κs = search needs
 is-amount-requires : tie.Need-is-amount-requires
 is-amount-requires c κs = search needs
 
+is-price-requires : tie.Need-is-price-requires
+is-price-requires c κs = search needs
+
+is-ask-requires : tie.Need-is-ask-requires
+is-ask-requires c κs = search needs
+
 is-basis-requires : tie.Need-is-basis-requires
 is-basis-requires c κs = search needs
 
@@ -47,26 +50,26 @@ is-weight-requires c κs = search needs
 returns : tie.Need-returns
 returns c =
     rw (
-      c .before .before .before .before .before .before .before .before .before .before .uses-account .ensures,
-      c .before .before .before .before .before .before .before .before .before .is-account .ensures,
-      c .before .before .before .before .before .before .before .before .uses-receipt .ensures,
-      c .before .before .before .before .before .before .before .is-receipt .ensures,
-      c .before .before .before .before .before .before .uses-contract .ensures,
-      c .before .before .before .before .before .is-contract .ensures,
-      c .before .before .before .before .is-days .ensures,
-      c .before .before .before .is-amount .ensures,
-      c .before .before .before .before .before .before .before .before .before .before .before .is-price .ensures,
+      c .before .before .before .before .before .before .before .before .before .before .before .before .uses-account .ensures,
+      c .before .before .before .before .before .before .before .before .before .before .before .is-account .ensures,
+      c .before .before .before .before .before .before .before .before .before .before .uses-receipt .ensures,
+      c .before .before .before .before .before .before .before .before .before .is-receipt .ensures,
+      c .before .before .before .before .before .before .before .before .uses-contract .ensures,
+      c .before .before .before .before .before .before .before .is-contract .ensures,
+      c .before .before .before .before .before .before .is-days .ensures,
+      c .before .before .before .before .before .is-amount .ensures,
+      c .before .before .before .before .is-price .ensures,
+      c .before .before .before .is-ask .ensures,
       c .before .is-basis .ensures,
       c .is-weight .ensures,
-      kept (c .before .before .before .before .before .before .before .before .before .before .before .before),
+      kept (c .before .before .before .before .before .before .before .before .before .before .before .before .before),
     )
-    (all-in-range (c .before .before .before .before .before .before .before .before .before .before .before .before .args .c) (c .before .before .before .before .before .before .before .before .before .before .before .before .args .c .kind))
+    (all-in-range (c .before .before .before .before .before .before .before .before .before .before .before .before .before .args .c) (c .before .before .before .before .before .before .before .before .before .before .before .before .before .args .c .kind))
 
 pub in-range-spec : {M : Type 1} → statement M
 in-range-spec =
     tie.close
     (tie.spec
-    is-price-requires
     uses-account-requires
     is-account-requires
     uses-receipt-requires
@@ -75,6 +78,8 @@ in-range-spec =
     is-contract-requires
     is-days-requires
     is-amount-requires
+    is-price-requires
+    is-ask-requires
     is-basis-requires
     is-weight-requires
     returns)

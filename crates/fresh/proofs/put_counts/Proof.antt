@@ -5,7 +5,7 @@ use denote.Ref.{now}
 use Rattle.units.specs.Ranges.{accountCount, receiptCount, contractCount}
 use Rattle.wire.specs.LittleEndian.{leBytes}
 use Rattle.wire.specs.Laws.Bytes.{run-behind}
-use Rattle.image.specs.Layout.{accountStart, contractStart, receiptStart, dayAt, headerBytes}
+use Rattle.image.specs.Layout.{accountStart, contractStart, receiptStart, accountCountPlace, receiptCountPlace, contractCountPlace, dayPlace, accountStartPlace, contractStartPlace, receiptStartPlace, headerBytes}
 use borrow.Author.Needs.{needs}
 use Rattle.fresh.proofs.put_counts.Statement.{statement}
 use Rattle.fresh.proofs.put_counts.Tie as tie
@@ -44,11 +44,11 @@ returns c =
     let d = leBytes 2 (c .before .before .before .before .before .before .before .before .before .before .before .before .before .before .before .before .before .before .before .before .before .before .before .before .before .before .before .before .before .args .day) in
     let e = leBytes 4 accountStart in
     let f = leBytes 4 contractStart in
-    run-behind s 0 (a ++ b ++ k ++ d ++ e ++ f) (leBytes 4 receiptStart) 16 refl
-    (run-behind s 0 (a ++ b ++ k ++ d ++ e) f 12 refl
-    (run-behind s 0 (a ++ b ++ k ++ d) e 8 refl
-    (run-behind s 0 (a ++ b ++ k) d dayAt refl
-    (run-behind s 0 (a ++ b) k 4 refl (run-behind s 0 a b 2 refl (c .before .before .before .before .before .before .before .before .before .before .before .before .before .before .before .before .before .before .before .before .before .before .before .before .before .before .put-u16 .ensures) (c .before .before .before .before .before .before .before .before .before .before .before .before .before .before .before .before .before .before .before .before .before .before .put-u162 .ensures)) (c .before .before .before .before .before .before .before .before .before .before .before .before .before .before .before .before .before .before .put-u163 .ensures))
+    run-behind s accountCountPlace (a ++ b ++ k ++ d ++ e ++ f) (leBytes 4 receiptStart) receiptStartPlace refl
+    (run-behind s accountCountPlace (a ++ b ++ k ++ d ++ e) f contractStartPlace refl
+    (run-behind s accountCountPlace (a ++ b ++ k ++ d) e accountStartPlace refl
+    (run-behind s accountCountPlace (a ++ b ++ k) d dayPlace refl
+    (run-behind s accountCountPlace (a ++ b) k contractCountPlace refl (run-behind s accountCountPlace a b receiptCountPlace refl (c .before .before .before .before .before .before .before .before .before .before .before .before .before .before .before .before .before .before .before .before .before .before .before .before .before .before .put-u16 .ensures) (c .before .before .before .before .before .before .before .before .before .before .before .before .before .before .before .before .before .before .before .before .before .before .put-u162 .ensures)) (c .before .before .before .before .before .before .before .before .before .before .before .before .before .before .before .before .before .before .put-u163 .ensures))
     (c .before .before .before .before .before .before .before .before .before .before .before .before .before .before .put-u164 .ensures))
     (c .before .before .before .before .before .before .before .before .before .before .put-u32 .ensures))
     (c .before .before .before .before .before .before .put-u322 .ensures))

@@ -8,7 +8,7 @@ use lib.ListN.{take}
 use lib.Seq.{sets}
 use Rattle.wire.specs.LittleEndian.{leBytes}
 use Rattle.wire.specs.Laws.Bytes.{run-behind}
-use Rattle.image.specs.Layout.{phaseAt, totalAt, headerBytes}
+use Rattle.image.specs.Layout.{phasePlace, totalPlace, headerBytes}
 use borrow.Author.Needs.{needs}
 use Rattle.fresh.proofs.put_header.Statement.{statement}
 use Rattle.fresh.proofs.put_header.Tie as tie
@@ -35,11 +35,11 @@ returns : tie.Need-returns
 unfolding headerBytes leBytes
 returns c =
     let s = now (c .before .before .before .before .before .before .before .before .before .before .before .before .before .before .before .args .image) in
-    let counts = take phaseAt (headerBytes (c .before .before .before .before .before .before .before .before .before .before .before .before .before .before .before .args .day) false 0) in
+    let counts = take phasePlace (headerBytes (c .before .before .before .before .before .before .before .before .before .before .before .before .before .before .before .args .day) false 0) in
     let phase : ℕ → List ℕ = λ p. p ∷ 0 ∷ 0 ∷ 0 ∷ [] in
-    run-behind s 0 (counts ++ phase (cond (c .before .before .before .before .before .before .before .before .before .before .before .before .before .before .before .args .afternoon) 1 0)) (leBytes 8 (c .before .before .before .before .before .before .before .before .before .before .before .before .before .before .before .args .total .0)) totalAt refl
-    (run-behind s 0 counts (phase (cond (c .before .before .before .before .before .before .before .before .before .before .before .before .before .before .before .args .afternoon) 1 0)) phaseAt refl (c .before .before .before .before .before .before .before .before .before .before .before .before .put-counts .ensures)
-    (c .before .before .before .before .before .before .put-run .ensures ∙ ap (λ (p : ℕ). sets (c .before .before .before .before .before .before .before .before .before .before .before .before .put-counts .last .0) phaseAt (phase p)) (c .before .before .before .before .before .before .before .before .before .phase .ensures)))
+    run-behind s 0 (counts ++ phase (cond (c .before .before .before .before .before .before .before .before .before .before .before .before .before .before .before .args .afternoon) 1 0)) (leBytes 8 (c .before .before .before .before .before .before .before .before .before .before .before .before .before .before .before .args .total .0)) totalPlace refl
+    (run-behind s 0 counts (phase (cond (c .before .before .before .before .before .before .before .before .before .before .before .before .before .before .before .args .afternoon) 1 0)) phasePlace refl (c .before .before .before .before .before .before .before .before .before .before .before .before .put-counts .ensures)
+    (c .before .before .before .before .before .before .put-run .ensures ∙ ap (λ (p : ℕ). sets (c .before .before .before .before .before .before .before .before .before .before .before .before .put-counts .last .0) phasePlace (phase p)) (c .before .before .before .before .before .before .before .before .before .phase .ensures)))
     (c .before .before .put-u64 .ensures)
 
 pub put-header-spec : {M : Type 1} → statement M

@@ -2,7 +2,7 @@
 use mathlib.Core.Path.{sym}
 use denote.Ref.{now}
 use lib.Dec.{lit<}
-use Rattle.image.specs.Layout.{receiptLength, receiptStart, stateAt, recordIn}
+use Rattle.image.specs.Layout.{receiptLength, receiptStart, statePlace, recordIn}
 use Rattle.image.specs.Laws.Table.{byte-in}
 use borrow.Author.Needs.{needs}
 use Rattle.image.proofs.state_at.Statement.{statement}
@@ -19,7 +19,7 @@ shared-slice-read-result c = search needs
 
 returns : tie.Need-returns
 unfolding recordIn
-returns c = sym (byte-in receiptStart receiptLength (c .before .args .k) stateAt (now (c .before .args .image)) (lit< tt))
+returns c = sym (byte-in receiptStart receiptLength (c .before .args .k) statePlace (now (c .before .args .image)) (lit< tt))
 
 pub state-at-spec : {M : Type 1} → statement M
 state-at-spec = tie.close (tie.spec mul-result add-result shared-slice-read-result returns)

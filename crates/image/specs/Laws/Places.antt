@@ -18,7 +18,7 @@ use Rattle.zone.specs.Parts.{withClock, withAsks, withAccounts, withReceipts, w
 use Rattle.image.specs.Table.{tableBytes}
 use Rattle.units.specs.Ranges.{accountCount, receiptCount, contractCount}
 use Rattle.zone.specs.Valid.{Sized, noAsks}
-use Rattle.image.specs.Layout.{accountLength, askLength, receiptLength, accountStart, contractStart, receiptStart, dayAt, phaseAt, totalAt, headerBytes, accountBytes, askBytes, receiptBytes}
+use Rattle.image.specs.Layout.{accountLength, askLength, receiptLength, accountStart, contractStart, receiptStart, dayPlace, phasePlace, totalPlace, headerBytes, accountBytes, askBytes, receiptBytes}
 use Rattle.image.specs.Image.{decode, encode, Encoded}
 use Rattle.image.specs.Laws.Table.{length-tableBytes}
 use Rattle.image.specs.Laws.Layout.{account-wide, ask-wide, receipt-wide}
@@ -148,14 +148,14 @@ module _ (s : List ℕ) (e : Encoded s) where
       ∙ sets-middle ((headerPart z) ++ (accountsPart z)) (asksPart z) (receiptsPart z) zeros contractStart (accounts-long z S) (sym n)
       ∙ ap (λ (t : List ℕ). (headerPart z) ++ (accountsPart z) ++ t ++ (receiptsPart z)) no-asks
 
-  pub total-put : (t : Fen) → sets s totalAt (leBytes 8 (t .0)) ≡ encode (withTotal (decode s) t)
+  pub total-put : (t : Fen) → sets s totalPlace (leBytes 8 (t .0)) ≡ encode (withTotal (decode s) t)
   unfolding headerBytes leBytes
   total-put t =
-      ap (λ (l : List ℕ). sets l totalAt (leBytes 8 (t .0))) (e ∙ header-first z S) ∙ sym (header-first (withTotal z t) (total-set z S t))
+      ap (λ (l : List ℕ). sets l totalPlace (leBytes 8 (t .0))) (e ∙ header-first z S) ∙ sym (header-first (withTotal z t) (total-set z S t))
 
   pub clock-put : (day : ℕ) (afternoon : Bool) →
-      set (sets s dayAt (leBytes 2 day)) phaseAt (cond afternoon 1 0) ≡ encode (withClock (decode s) day afternoon)
+      set (sets s dayPlace (leBytes 2 day)) phasePlace (cond afternoon 1 0) ≡ encode (withClock (decode s) day afternoon)
   unfolding headerBytes leBytes
   clock-put day afternoon =
-      ap (λ (l : List ℕ). set (sets l dayAt (leBytes 2 day)) phaseAt (cond afternoon 1 0)) (e ∙ header-first z S)
+      ap (λ (l : List ℕ). set (sets l dayPlace (leBytes 2 day)) phasePlace (cond afternoon 1 0)) (e ∙ header-first z S)
       ∙ sym (header-first (withClock z day afternoon) (clock-set z S day afternoon))

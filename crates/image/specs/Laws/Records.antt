@@ -27,7 +27,7 @@ use Rattle.zone.specs.Laws.Facts.{bounds}
 use Rattle.zone.specs.Laws.Held.{invoice-bounds}
 use Rattle.zone.specs.Laws.Tests.{both, price-at-most}
 use Rattle.image.specs.Table.{table}
-use Rattle.image.specs.Layout.{headerLength, accountLength, askLength, receiptLength, accountStart, contractStart, receiptStart, dayAt, phaseAt, totalAt, headerOk, headerBytes, dayIn, afternoonIn, totalIn, accountIn, accountBytes, askIn, askBytes, recordIn, recordBytes}
+use Rattle.image.specs.Layout.{headerLength, accountLength, askLength, receiptLength, accountStart, contractStart, receiptStart, accountCountPlace, receiptCountPlace, contractCountPlace, dayPlace, accountStartPlace, contractStartPlace, receiptStartPlace, phasePlace, totalPlace, ownerPlace, statePlace, sellerPlace, buyerPlace, contractPlace, daysPlace, duePlace, weightPlace, basisPlace, pricePlace, pendingPlace, confirmedPlace, paidPlace, headerOk, headerBytes, dayIn, afternoonIn, totalIn, accountIn, accountBytes, askIn, askBytes, recordIn, recordBytes}
 use Rattle.image.specs.Laws.Bytes.{bytes-cons, bytes-append}
 use Rattle.image.specs.Laws.Fields.{record-eq}
 
@@ -181,11 +181,11 @@ ask-written b B n =
 pub record-written : (b : List ℕ) → Bytes b → length b ≡ receiptLength → recordBytes (recordIn b) ≡ b
 unfolding recordBytes recordIn table
 record-written b B n =
-    let six : getD b 0 0 ∷ getD b 1 0 ∷ getD b 2 0 ∷ getD b 3 0 ∷ getD b 4 0 ∷ getD b 5 0 ∷ [] ≡ take 6 b = sym (take-table 6 b (omega arith)) in
+    let single : getD b ownerPlace 0 ∷ getD b statePlace 0 ∷ getD b sellerPlace 0 ∷ getD b buyerPlace 0 ∷ getD b contractPlace 0 ∷ getD b daysPlace 0 ∷ [] ≡ take duePlace b = sym (take-table duePlace b (omega arith)) in
     let h : length b ≤ receiptLength = omega arith in
-    rw (bits-signed (leAt 4 b 12) (leAt-lt 4 b 12 B), leBytes-leAt 2 b 6 B (omega arith), leBytes-leAt 4 b 8 B (omega arith), leBytes-leAt 4 b 12 B (omega arith), leBytes-leAt 4 b 16 B (omega arith), leBytes-leAt 4 b 20 B (omega arith), leBytes-leAt 4 b 24 B (omega arith), leBytes-leAt 4 b 28 B (omega arith))
-    (ap (λ (l : List ℕ). l ++ take 2 (drop 6 b) ++ take 4 (drop 8 b) ++ take 4 (drop 12 b) ++ take 4 (drop 16 b) ++ take 4 (drop 20 b) ++ take 4 (drop 24 b) ++ take 4 (drop 28 b)) six
-    ∙ rw (run b 6 2, run b 8 4, run b 12 4, run b 16 4, run b 20 4, run b 24 4, run b 28 4) (take-all receiptLength b h))
+    rw (bits-signed (leAt 4 b basisPlace) (leAt-lt 4 b basisPlace B), leBytes-leAt 2 b duePlace B (omega arith), leBytes-leAt 4 b weightPlace B (omega arith), leBytes-leAt 4 b basisPlace B (omega arith), leBytes-leAt 4 b pricePlace B (omega arith), leBytes-leAt 4 b pendingPlace B (omega arith), leBytes-leAt 4 b confirmedPlace B (omega arith), leBytes-leAt 4 b paidPlace B (omega arith))
+    (ap (λ (l : List ℕ). l ++ take 2 (drop duePlace b) ++ take 4 (drop weightPlace b) ++ take 4 (drop basisPlace b) ++ take 4 (drop pricePlace b) ++ take 4 (drop pendingPlace b) ++ take 4 (drop confirmedPlace b) ++ take 4 (drop paidPlace b)) single
+    ∙ rw (run b duePlace 2, run b weightPlace 4, run b basisPlace 4, run b pricePlace 4, run b pendingPlace 4, run b confirmedPlace 4, run b paidPlace 4) (take-all receiptLength b h))
 
 phase-is : (p : ℕ) → p ≤ 1 → cond (eqb p 1) 1 0 ≡ p
 phase-is p h = go (ℕ-discrete p 1)
@@ -196,16 +196,16 @@ phase-is p h = go (ℕ-discrete p 1)
 
 -- the header's test, number by number
 record HeaderIn (s : List ℕ) : Type 0 where
-  accounts : leAt 2 s 0 ≡ accountCount
-  receipts : leAt 2 s 2 ≡ receiptCount
-  contracts : leAt 2 s 4 ≡ contractCount
-  accounts-at : leAt 4 s 8 ≡ accountStart
-  contracts-at : leAt 4 s 12 ≡ contractStart
-  receipts-at : leAt 4 s 16 ≡ receiptStart
-  phase : getD s phaseAt 0 ≤ 1
-  zero-1 : getD s 21 0 ≡ 0
-  zero-2 : getD s 22 0 ≡ 0
-  zero-3 : getD s 23 0 ≡ 0
+  accounts : leAt 2 s accountCountPlace ≡ accountCount
+  receipts : leAt 2 s receiptCountPlace ≡ receiptCount
+  contracts : leAt 2 s contractCountPlace ≡ contractCount
+  accounts-at : leAt 4 s accountStartPlace ≡ accountStart
+  contracts-at : leAt 4 s contractStartPlace ≡ contractStart
+  receipts-at : leAt 4 s receiptStartPlace ≡ receiptStart
+  phase : getD s phasePlace 0 ≤ 1
+  zero-1 : getD s (phasePlace + 1) 0 ≡ 0
+  zero-2 : getD s (phasePlace + 2) 0 ≡ 0
+  zero-3 : getD s (phasePlace + 3) 0 ≡ 0
 
 header-in : (s : List ℕ) → headerOk s ≡ true → HeaderIn s
 unfolding headerOk
@@ -238,25 +238,25 @@ header-written s B n ok =
     let H = header-in s ok in
     let num : (w at v : ℕ) → at + w ≤ headerLength → leAt w s at ≡ v → leBytes w v ≡ take w (drop at s) =
     λ w at v h e. ap (leBytes w) (sym e) ∙ leBytes-leAt w s at B (omega arith) in
-    let four : cond (afternoonIn s) 1 0 ∷ 0 ∷ 0 ∷ 0 ∷ [] ≡ take 4 (drop phaseAt s) =
-    rw (take-table 4 (drop phaseAt s) (rw length-drop (omega arith)), getD-drop phaseAt s 0 0, getD-drop phaseAt s 1 0, getD-drop phaseAt s 2 0, getD-drop phaseAt s 3 0, H .zero-1, H .zero-2, H .zero-3)
-    (ap (λ (p : ℕ). p ∷ 0 ∷ 0 ∷ 0 ∷ []) (phase-is (getD s phaseAt 0) (H .phase))) in
+    let four : cond (afternoonIn s) 1 0 ∷ 0 ∷ 0 ∷ 0 ∷ [] ≡ take 4 (drop phasePlace s) =
+    rw (take-table 4 (drop phasePlace s) (rw length-drop (omega arith)), getD-drop phasePlace s 0 0, getD-drop phasePlace s 1 0, getD-drop phasePlace s 2 0, getD-drop phasePlace s 3 0, H .zero-1, H .zero-2, H .zero-3)
+    (ap (λ (p : ℕ). p ∷ 0 ∷ 0 ∷ 0 ∷ []) (phase-is (getD s phasePlace 0) (H .phase))) in
     rw (
-      num 2 0 accountCount (lit≤ tt) (H .accounts),
-      num 2 2 receiptCount (lit≤ tt) (H .receipts),
-      num 2 4 contractCount (lit≤ tt) (H .contracts),
-      num 2 dayAt (dayIn s) (lit≤ tt) refl,
-      num 4 8 accountStart (lit≤ tt) (H .accounts-at),
-      num 4 12 contractStart (lit≤ tt) (H .contracts-at),
-      num 4 16 receiptStart (lit≤ tt) (H .receipts-at),
+      num 2 accountCountPlace accountCount (lit≤ tt) (H .accounts),
+      num 2 receiptCountPlace receiptCount (lit≤ tt) (H .receipts),
+      num 2 contractCountPlace contractCount (lit≤ tt) (H .contracts),
+      num 2 dayPlace (dayIn s) (lit≤ tt) refl,
+      num 4 accountStartPlace accountStart (lit≤ tt) (H .accounts-at),
+      num 4 contractStartPlace contractStart (lit≤ tt) (H .contracts-at),
+      num 4 receiptStartPlace receiptStart (lit≤ tt) (H .receipts-at),
       four,
-      num 8 totalAt (totalIn s) (lit≤ tt) refl,
-      run s 2 2,
-      run s 4 2,
-      run s dayAt 2,
-      run s 8 4,
-      run s 12 4,
-      run s 16 4,
-      run s phaseAt 4,
-      run s totalAt 8,
+      num 8 totalPlace (totalIn s) (lit≤ tt) refl,
+      run s receiptCountPlace 2,
+      run s contractCountPlace 2,
+      run s dayPlace 2,
+      run s accountStartPlace 4,
+      run s contractStartPlace 4,
+      run s receiptStartPlace 4,
+      run s phasePlace 4,
+      run s totalPlace 8,
     )

@@ -7,7 +7,7 @@ use denote.Ref.{now}
 use lib.ListN.{set}
 use lib.Seq.{sets}
 use Rattle.wire.specs.LittleEndian.{leBytes}
-use Rattle.image.specs.Layout.{dayAt, phaseAt}
+use Rattle.image.specs.Layout.{dayPlace, phasePlace}
 use Rattle.image.specs.Laws.Places.{clock-put}
 use Rattle.image.specs.Laws.RoundTrip.{same-long}
 use borrow.Author.Needs.{needs}
@@ -29,8 +29,8 @@ same-length c = search needs
 returns : tie.Need-returns
 returns c =
     let s = now (c .before .before .before .before .before .before .args .image) in
-    ap (λ (t : List ℕ). set t phaseAt (c .phase .result)) (c .before .before .before .put-u16 .ensures)
-    ∙ ap (set (sets s dayAt (leBytes 2 (c .before .before .before .before .before .before .args .day))) phaseAt) (c .phase .ensures)
+    ap (λ (t : List ℕ). set t phasePlace (c .phase .result)) (c .before .before .before .put-u16 .ensures)
+    ∙ ap (set (sets s dayPlace (leBytes 2 (c .before .before .before .before .before .before .args .day))) phasePlace) (c .phase .ensures)
     ∙ clock-put s (c .before .before .before .before .before .before .pre) (c .before .before .before .before .before .before .args .day) (c .before .before .before .before .before .before .args .afternoon)
 
 pub clock-spec : {M : Type 1} → statement M
