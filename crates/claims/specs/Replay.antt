@@ -3,7 +3,7 @@
 use mathlib.Core.List.{List, [], _∷_}
 use Rattle.units.specs.Payments.{unitPrice, payable, fullPayment, firstPayment, restPayment, partPayment, penaltyPassed}
 use Rattle.zone.specs.declared.Zone.{Zone}
-use Rattle.zone.specs.Held.{full, held, share, heldBy}
+use Rattle.zone.specs.Held.{full, held, share, heldFrom}
 use Rattle.zone.specs.Record.{recordOf}
 use Rattle.rules.specs.declared.Call.{Call}
 use Rattle.rules.specs.declared.Step.the-variants.{Refused, Accepted}
@@ -17,7 +17,7 @@ use Rattle.claims.specs.History.{Reply, refusedWith, acceptedWith}
 
 -- the reply to a call, and the zone after it
 unfoldable pub replyTo : Zone → Call → Reply × Zone
-unfolding stepAt firstNumber illFormed outOfRange wrongPhase wrongState wrongParty notAbove lacksAsk notPayable lacksMoney aboveLimit aboveInvoice effect opening ending firstLot lotCount ruleOf register listFor withdrawListing limitBid marketBid withdrawBid quoteLot lodge closeLot payFirst sendInvoice confirm dayCloseLot noRule credit debit release freeze moneyOf accountsAfter posted sweep nth put freeAt frozenAt receiptAt askAt viewOf share held full heldBy recordOf unitPrice payable fullPayment firstPayment restPayment partPayment penaltyPassed
+unfolding stepAt firstNumber illFormed outOfRange wrongPhase wrongState wrongParty notAbove lacksAsk notPayable lacksMoney aboveLimit aboveInvoice effect opening ending firstLot lotCount ruleOf register listFor withdrawListing limitBid marketBid withdrawBid quoteLot lodge closeLot payFirst sendInvoice confirm dayCloseLot noRule credit debit release freeze moneyOf accountsAfter posted sweep nth put freeAt frozenAt receiptAt askAt viewOf share held full heldFrom recordOf unitPrice payable fullPayment firstPayment restPayment partPayment penaltyPassed
 replyTo z c =
     elim (stepOn z c) [ Refused n ↦ (refusedWith n, z) | Accepted a ↦ (acceptedWith (effect z c .entries), effect z c .zone) ]
 

@@ -62,12 +62,12 @@ fn freeze_from(image: &mut [u8], a: u8, n: Fen)
 // What the lot held is freed, n passes from one account to the other, and what the lot now holds is frozen.
 pub fn move_money(image: &mut [u8], old: Hold, from: u8, to: u8, n: Fen, new: Hold)
     requires { ⌜ Encoded (now image) × Fits (decode (now image)) × Funds (decode (now image) .accounts) old from to n new ⌝ }
-    ensures { λ _. ⌜ now (image .exit) ≡ encode (withAccounts (decode (now (image .entry))) (freeze (new .by) (new .fen) (credit to n (debit from n (release (old .by) (old .fen) (decode (now (image .entry)) .accounts)))))) ⌝ }
+    ensures { λ _. ⌜ now (image .exit) ≡ encode (withAccounts (decode (now (image .entry))) (freeze (new .from) (new .fen) (credit to n (debit from n (release (old .from) (old .fen) (decode (now (image .entry)) .accounts)))))) ⌝ }
 {
     let before = old.fen;
     let after = new.fen;
-    release_to(image, old.by, before);
+    release_to(image, old.from, before);
     debit_from(image, from, n);
     credit_to(image, to, n);
-    freeze_from(image, new.by, after);
+    freeze_from(image, new.from, after);
 }

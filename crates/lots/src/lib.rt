@@ -58,7 +58,7 @@ fn ask_of(image: &[u8], n: u8) -> YuanPerTonne
 }
 
 // The record of any receipt number; a number that is none has the record of no receipt.
-fn record_numbered(image: &[u8], n: u8) -> Record
+fn record_of_receipt(image: &[u8], n: u8) -> Record
     requires { ⌜ Encoded (now image) × Fits (decode (now image)) ⌝ }
     ensures { λ r. ⌜ r ≡ recordAt (decode (now (image .entry))) n ⌝ }
 {
@@ -103,7 +103,7 @@ pub fn step_of(image: &[u8], c: Call) -> Step
     requires { ⌜ validImage (now image) ≡ true ⌝ }
     ensures { λ r. ⌜ r ≡ stepOn (decode (now (image .entry))) c ⌝ }
 {
-    let f = record_numbered(image, c.receipt);
+    let f = record_of_receipt(image, c.receipt);
     steps::step_at(view_of(image, c.account, f), c, f)
 }
 

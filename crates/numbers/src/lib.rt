@@ -3,7 +3,7 @@ ghost use mathlib.Core.Bool.{true};
 ghost use mathlib.Core.Path.{_≡_};
 ghost use Prim.Native.Nat.{_≤_, _<_, _^_};
 ghost use Rattle.units.specs.Ranges.{isAmount, mostPrice, moneyLimit};
-ghost use Rattle.zone.specs.Held.{heldBy};
+ghost use Rattle.zone.specs.Held.{heldFrom};
 ghost use Rattle.zone.specs.Valid.{recordValid};
 ghost use Rattle.rules.specs.Numbers.{illFormed, outOfRange, wrongPhase, wrongState, wrongParty, notAbove, lacksAsk, notPayable, lacksMoney, aboveLimit, aboveInvoice, firstNumber};
 ghost use Rattle.rules.specs.Ready.{Ready};
@@ -144,13 +144,13 @@ fn not_payable(v: View, c: Call, f: Record) -> bool
 }
 
 // What the lot holds from an account.
-fn held_by(a: u8, f: Record) -> Fen
+fn held_from(a: u8, f: Record) -> Fen
     requires { ⌜ recordValid f ≡ true ⌝ }
-    ensures { λ x. ⌜ (x .0 ≡ heldBy a f) × (x .0 < 2 ^ 32) ⌝ }
+    ensures { λ x. ⌜ (x .0 ≡ heldFrom a f) × (x .0 < 2 ^ 32) ⌝ }
 {
     let h = validity::hold_of(f);
     let held = h.fen;
-    if a == h.by { held } else { Fen(0) }
+    if a == h.from { held } else { Fen(0) }
 }
 
 fn lacks_money(v: View, c: Call, f: Record) -> bool
@@ -163,7 +163,7 @@ fn lacks_money(v: View, c: Call, f: Record) -> bool
         return free < c.amount;
     }
     ((kind == KIND_LIMIT_BID) | (kind == KIND_MARKET_BID))
-        & (free + held_by(c.account, f).0 < PER_RECEIPT)
+        & (free + held_from(c.account, f).0 < PER_RECEIPT)
 }
 
 fn above_limit(v: View, c: Call) -> bool

@@ -46,10 +46,10 @@ unfoldable pub accountsAfter : Record → Entry → Record → List Account → 
 accountsAfter f e f′ l =
     let old = holdOf f in
     let new = holdOf f′ in
-    freeze (new .by) (new .fen)
+    freeze (new .from) (new .fen)
     (credit (e .to) (moneyOf e)
     (debit (e .from) (moneyOf e)
-    (release (old .by) (old .fen) l)))
+    (release (old .from) (old .fen) l)))
 
 -- the zone with an event posted: the lot's receipt changed, and its money moved
 unfoldable pub posted : Zone → Entry → Receipt → Zone

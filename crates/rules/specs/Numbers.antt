@@ -9,7 +9,7 @@ use lib.IntN.{ℤ, pos, negsuc}
 use Rattle.units.specs.Payments.{payable, deposit}
 use Rattle.units.specs.Ranges.{within, isZero, isAccount, isReceipt, isContract, isDays, isPrice, isAsk, isBasis, isWeight, isAmount, moneyLimit, lastDay}
 use Rattle.zone.specs.declared.Record.{Record}
-use Rattle.zone.specs.Held.{full, heldBy}
+use Rattle.zone.specs.Held.{full, heldFrom}
 use Rattle.rules.specs.declared.Call.{Call}
 use Rattle.rules.specs.declared.View.{View}
 use Rattle.rules.specs.Tables.{among, row, firstThatApplies}
@@ -167,7 +167,7 @@ unfoldable pub lacksMoney : View → Call → Record → Bool
 lacksMoney v c f =
     row (c .kind) false
     ((2 ∷ [], ltb (v .free .caller .0) (c .amount))
-    ∷ (6 ∷ 7 ∷ [], ltb (v .free .caller .0 + heldBy (c .account) f) (deposit .0))
+    ∷ (6 ∷ 7 ∷ [], ltb (v .free .caller .0 + heldFrom (c .account) f) (deposit .0))
     ∷ [])
 
 -- 12: all money would pass its limit

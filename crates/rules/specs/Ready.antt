@@ -34,16 +34,16 @@ pub record ReadyCall (c : Call) (f : Record) : Type 0 where
 
 -- The money of an event is there: `old` is freed, n passes from account s to account t, then `new` is frozen.
 pub record Funds (l : List Account) (old : Hold) (s t : ℕ) (n : Fen) (new : Hold) : Type 0 where
-  pub old-in : old .by ≤ length l
+  pub old-in : old .from ≤ length l
   pub from-in : s ≤ length l
   pub to-in : t ≤ length l
-  pub new-in : new .by ≤ length l
+  pub new-in : new .from ≤ length l
   pub from-some : 0 < s
   pub to-some : 0 < n .0 → 0 < t
-  pub frozen-fits : 0 < old .by → old .fen .0 ≤ frozenAt l (old .by) .0
-  pub pass-fits : n .0 ≤ freeAt l s .0 + share s (old .by) (old .fen .0)
-  pub hold-fits : 0 < new .by →
-      new .fen .0 + share (new .by) s (n .0) ≤ freeAt l (new .by) .0 + share (new .by) (old .by) (old .fen .0) + share (new .by) t (n .0)
+  pub frozen-fits : 0 < old .from → old .fen .0 ≤ frozenAt l (old .from) .0
+  pub pass-fits : n .0 ≤ freeAt l s .0 + share s (old .from) (old .fen .0)
+  pub hold-fits : 0 < new .from →
+      new .fen .0 + share (new .from) s (n .0) ≤ freeAt l (new .from) .0 + share (new .from) (old .from) (old .fen .0) + share (new .from) t (n .0)
 
 -- the money of the event with entry e, by which a lot of record f has record f′
 abbrev pub Funded : List Account → Record → Entry → Record → Type 0

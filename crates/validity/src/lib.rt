@@ -191,29 +191,29 @@ pub fn hold_of(r: Record) -> Hold
     requires { ⌜ recordValid r ≡ true ⌝ }
     ensures { λ x. ⌜ x ≡ holdOf r ⌝ }
 {
-    let by = r.buyer;
+    let from = r.buyer;
     let s = r.state;
     if (STATE_BID_STANDS <= s) & (s <= STATE_LODGED) {
         return Hold {
-            by: by,
+            from: from,
             fen: units::deposit_per_receipt(),
         };
     }
     if s == STATE_SETTLED {
         return Hold {
-            by: by,
+            from: from,
             fen: full_of(r),
         };
     }
     if s == STATE_FIRST_PAID {
         let rest = units::rest_payment(full_of(r)).0;
         return Hold {
-            by: by,
+            from: from,
             fen: Fen(rest - r.paid.0),
         };
     }
     Hold {
-        by: by,
+        from: from,
         fen: Fen(0),
     }
 }

@@ -12,17 +12,17 @@ use Rattle.units.specs.Ranges.{accountCount, moneyLimit}
 use Rattle.zone.specs.declared.Account.{Account}
 use Rattle.zone.specs.declared.Hold.{Hold}
 use Rattle.zone.specs.declared.Record.{Record}
-use Rattle.zone.specs.Held.{heldBy, allMoney}
+use Rattle.zone.specs.Held.{heldFrom, allMoney}
 use Rattle.zone.specs.Valid.{recordValid}
 use Rattle.image.specs.Table.{table}
 
 abbrev pub noHold : Hold
-noHold = record { by = 0; fen = fen 0 }
+noHold = record { from = 0; fen = fen 0 }
 
 -- what the valid records hold from account x
 unfoldable pub heldValid : ℕ → List Record → ℕ
 heldValid x [] = 0
-heldValid x (r ∷ rs) = cond (recordValid r) (heldBy x r) 0 + heldValid x rs
+heldValid x (r ∷ rs) = cond (recordValid r) (heldFrom x r) 0 + heldValid x rs
 
 -- from each account, nobody's place first
 unfoldable pub heldSums : List Record → List Fen

@@ -112,7 +112,10 @@ fn hold_in(r: Record, ok: bool) -> Hold
     if ok {
         validity::hold_of(r)
     } else {
-        Hold { by: 0, fen: Fen(0) }
+        Hold {
+            from: 0,
+            fen: Fen(0),
+        }
     }
 }
 
@@ -134,8 +137,8 @@ fn judge_records(image: &[u8]) -> Records
         let r = image::record_at(image, i);
         let good = validity::record_ok(r);
         let h = hold_in(r, good);
-        let by = h.by as usize;
-        sums[by] = Fen(sums[by].0 + h.fen.0);
+        let from = h.from as usize;
+        sums[from] = Fen(sums[from].0 + h.fen.0);
         ok = ok & good;
         i += 1;
     }

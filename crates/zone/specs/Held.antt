@@ -29,21 +29,21 @@ held r =
 
 -- from whom, and how much: a lot holds from its buyer
 abbrev pub holdOf : Record → Hold
-holdOf r = record { by = r .buyer; fen = held r }
+holdOf r = record { from = r .buyer; fen = held r }
 
 -- n for account a, nothing for any other account x
 unfoldable pub share : ℕ → ℕ → ℕ → ℕ
 share x a n = cond (eqb x a) n 0
 
 -- what the lot holds from account x
-unfoldable pub heldBy : ℕ → Record → ℕ
-heldBy x r = share x (holdOf r .by) (holdOf r .fen .0)
+unfoldable pub heldFrom : ℕ → Record → ℕ
+heldFrom x r = share x (holdOf r .from) (holdOf r .fen .0)
 
 -- what the lots hold from account x; `rec` reads an element of the list as a record
 module _ {A : Type 0} (rec : A → Record) where
   unfoldable pub heldSum : ℕ → List A → ℕ
   heldSum x [] = 0
-  heldSum x (r ∷ rs) = heldBy x (rec r) + heldSum x rs
+  heldSum x (r ∷ rs) = heldFrom x (rec r) + heldSum x rs
 
 -- all free and all frozen money
 unfoldable pub allMoney : List Account → ℕ

@@ -105,7 +105,7 @@ pub struct Record {
 
 // From whom a lot holds money, and how much.
 pub struct Hold {
-    pub by: u8,
+    pub from: u8,
     pub fen: Fen,
 }
 

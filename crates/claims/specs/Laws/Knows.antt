@@ -14,7 +14,7 @@ use Rattle.units.specs.Payments.{fen, deposit, firstPayment, restPayment}
 use Rattle.units.specs.Ranges.{within}
 use Rattle.zone.specs.declared.Receipt.{Receipt}
 use Rattle.zone.specs.declared.Record.{Record}
-use Rattle.zone.specs.Held.{full, rest, held, share, heldBy, heldSum}
+use Rattle.zone.specs.Held.{full, rest, held, share, heldFrom, heldSum}
 use Rattle.zone.specs.Record.{recordOf}
 use Rattle.zone.specs.Valid.{noReceipt}
 use Rattle.rules.specs.declared.Entry.{Entry}
@@ -118,8 +118,8 @@ at-held (suc (suc (suc (suc (suc (suc (suc n))))))) f p k x =
     let s : ℕ = suc (suc (suc (suc (suc (suc (suc n)))))) in
     rw (lt-leb s 4 (omega arith), le-leb 2 s (omega arith), ne-eqb s 5 (omega arith), ne-eqb s 6 (omega arith)) (k x ∙ sym (fen-zero x (f .buyer)))
 
-pub known-held : {f : Record} {p : Past} → Known f p → (x : ℕ) → heldIn x p ≡ heldBy x f
-unfolding heldBy held fenOf share
+pub known-held : {f : Record} {p : Past} → Known f p → (x : ℕ) → heldIn x p ≡ heldFrom x f
+unfolding heldFrom held fenOf share
 known-held {f} {p} K = at-held (f .state) f p (K .lot)
 
 -- the table's sum over lots from n on is the lots' sum

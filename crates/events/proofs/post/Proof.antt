@@ -80,7 +80,7 @@ returns c =
     c .before .before .move-money .ensures
     ∙ ap
     (λ (y : Zone).
-    encode (withAccounts y (freeze (c .before .before .before .before .before .before .before .before .before .hold-of2 .result .by) (c .before .before .before .before .before .before .before .before .before .hold-of2 .result .fen) (credit (c .before .before .before .before .before .before .before .before .before .before .before .before .before .before .before .before .args .e .to) (c .before .before .before .money-of .result) (debit (c .before .before .before .before .before .before .before .before .before .before .before .before .before .before .before .before .args .e .from) (c .before .before .before .money-of .result) (release (c .before .before .before .before .before .before .before .before .before .before .before .hold-of .result .by) (c .before .before .before .before .before .before .before .before .before .before .before .hold-of .result .fen) (y .accounts)))))))
+    encode (withAccounts y (freeze (c .before .before .before .before .before .before .before .before .before .hold-of2 .result .from) (c .before .before .before .before .before .before .before .before .before .hold-of2 .result .fen) (credit (c .before .before .before .before .before .before .before .before .before .before .before .before .before .before .before .before .args .e .to) (c .before .before .before .money-of .result) (debit (c .before .before .before .before .before .before .before .before .before .before .before .before .before .before .before .before .args .e .from) (c .before .before .before .money-of .result) (release (c .before .before .before .before .before .before .before .before .before .before .before .hold-of .result .from) (c .before .before .before .before .before .before .before .before .before .before .before .hold-of .result .fen) (y .accounts)))))))
     (receipt-changed (c .before .before .before .before .before .before .before) .zone)
     ∙ rw (c .before .before .before .money-of .ensures, holds (c .before .before .before .before .before .before .before .before .before), held (c .before .before .before .before .before .before .before .before .before .before .before))
 

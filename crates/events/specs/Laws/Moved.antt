@@ -76,23 +76,23 @@ module _ (s : List ℕ) (F : Fits (decode s)) {old : Hold} {f t : ℕ} {k : Fen}
   l = decode s .accounts
 
   abbrev l1 : List Account
-  l1 = release (old .by) (old .fen) l
+  l1 = release (old .from) (old .fen) l
 
-  long : length (release (old .by) (old .fen) (decode s .accounts)) ≡ accountCount
-  long = length-release l (old .by) (old .fen) ∙ decode-sized s .accounts
+  long : length (release (old .from) (old .fen) (decode s .accounts)) ≡ accountCount
+  long = length-release l (old .from) (old .fen) ∙ decode-sized s .accounts
 
-  pub released : {s₁ : List ℕ} → s₁ ≡ encode (withAccounts (decode s) (release (old .by) (old .fen) (decode s .accounts)))
-      → Moved s s₁ (release (old .by) (old .fen) (decode s .accounts))
+  pub released : {s₁ : List ℕ} → s₁ ≡ encode (withAccounts (decode s) (release (old .from) (old .fen) (decode s .accounts)))
+      → Moved s s₁ (release (old .from) (old .fen) (decode s .accounts))
   released e = moved F e long (omega (arith, all-released P, F .money))
 
-  pub debited : {s₁ s₂ : List ℕ} → Moved s s₁ (release (old .by) (old .fen) (decode s .accounts))
+  pub debited : {s₁ s₂ : List ℕ} → Moved s s₁ (release (old .from) (old .fen) (decode s .accounts))
       → s₂ ≡ encode (withAccounts (decode s₁) (debit f k (decode s₁ .accounts)))
-      → Moved s s₂ (debit f k (release (old .by) (old .fen) (decode s .accounts)))
+      → Moved s s₂ (debit f k (release (old .from) (old .fen) (decode s .accounts)))
   debited M e = moved F (next (debit f k) M e) (length-debit l1 f k ∙ long) (omega (arith, all-debited P, F .money))
 
-  pub credited : {s₁ s₂ : List ℕ} → Moved s s₁ (debit f k (release (old .by) (old .fen) (decode s .accounts)))
+  pub credited : {s₁ s₂ : List ℕ} → Moved s s₁ (debit f k (release (old .from) (old .fen) (decode s .accounts)))
       → s₂ ≡ encode (withAccounts (decode s₁) (credit t k (decode s₁ .accounts)))
-      → Moved s s₂ (credit t k (debit f k (release (old .by) (old .fen) (decode s .accounts))))
+      → Moved s s₂ (credit t k (debit f k (release (old .from) (old .fen) (decode s .accounts))))
   credited M e =
       moved F (next (credit t k) M e) (length-credit (debit f k l1) t k ∙ length-debit l1 f k ∙ long) (omega (arith, all-credited P, F .money))
 

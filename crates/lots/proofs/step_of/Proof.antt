@@ -9,20 +9,20 @@ use Rattle.lots.specs.Laws.Visits.{good-decode}
 use Rattle.lots.proofs.step_of.Statement.{statement}
 use Rattle.lots.proofs.step_of.Tie as tie
 
-record-numbered-requires : tie.Need-record-numbered-requires
-record-numbered-requires c κs = (sym (encode-decode _ (c .before .pre) (λ k. c .shared-slice-known .given k .fits)), valid-fits _ (valid-decode _ (c .before .pre)))
+record-of-receipt-requires : tie.Need-record-of-receipt-requires
+record-of-receipt-requires c κs = (sym (encode-decode _ (c .before .pre) (λ k. c .shared-slice-known .given k .fits)), valid-fits _ (valid-decode _ (c .before .pre)))
 
 view-of-requires : tie.Need-view-of-requires
-view-of-requires c κs = (valid-long _ (c .before .before .pre), rw (c .record-numbered .ensures) (record-valid _ (valid-fits _ (valid-decode _ (c .before .before .pre))) _))
+view-of-requires c κs = (valid-long _ (c .before .before .pre), rw (c .record-of-receipt .ensures) (record-valid _ (valid-fits _ (valid-decode _ (c .before .before .pre))) _))
 
 step-at-requires : tie.Need-step-at-requires
 step-at-requires c κs =
     let z = decode (now (c .before .before .before .args .image)) in
     let G : Good z = good-decode _ (valid-decode _ (c .before .before .before .pre)) in
-    rw (c .view-of .ensures, c .before .record-numbered .ensures) (ready-at z G (c .before .before .before .args .c) _)
+    rw (c .view-of .ensures, c .before .record-of-receipt .ensures) (ready-at z G (c .before .before .before .args .c) _)
 
 returns : tie.Need-returns
-returns c = rw (c .step-at .ensures, c .before .view-of .ensures, c .before .before .record-numbered .ensures)
+returns c = rw (c .step-at .ensures, c .before .view-of .ensures, c .before .before .record-of-receipt .ensures)
 
 pub step-of-spec : {M : Type 1} → statement M
-step-of-spec = tie.close (tie.spec record-numbered-requires view-of-requires step-at-requires returns)
+step-of-spec = tie.close (tie.spec record-of-receipt-requires view-of-requires step-at-requires returns)

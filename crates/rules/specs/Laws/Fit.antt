@@ -11,7 +11,7 @@ use Rattle.zone.specs.declared.Account.{Account}
 use Rattle.zone.specs.declared.Receipt.{Receipt}
 use Rattle.zone.specs.declared.Record.{Record}
 use Rattle.zone.specs.declared.Zone.{Zone}
-use Rattle.zone.specs.Held.{share, held, heldBy}
+use Rattle.zone.specs.Held.{share, held, heldFrom}
 use Rattle.zone.specs.Laws.Facts.{Owned, bounds}
 use Rattle.zone.specs.Laws.Held.{share-same}
 use Rattle.zone.specs.Laws.Lots.{LotIn, IdleIn, receipt-valid}
@@ -39,9 +39,9 @@ pub record EntryOk (n : ℕ) (e : Entry) : Type 0 where
 -- The money of an event is there: of accounts l, the lot of record f becomes r′. What the lot held counts as free.
 pub record Pays (l : List Account) (f : Record) (e : Entry) (r′ : Receipt) : Type 0 where
   pub to-some : 0 < moneyOf e .0 → 0 < e .to
-  pub pass-fits : moneyOf e .0 ≤ freeAt l (e .from) .0 + heldBy (e .from) f
+  pub pass-fits : moneyOf e .0 ≤ freeAt l (e .from) .0 + heldFrom (e .from) f
   pub hold-fits : 0 < recordOf r′ .buyer → held (recordOf r′) .0 + share (recordOf r′ .buyer) (e .from) (moneyOf e .0)
-      ≤ freeAt l (recordOf r′ .buyer) .0 + heldBy (recordOf r′ .buyer) f + share (recordOf r′ .buyer) (e .to) (moneyOf e .0)
+      ≤ freeAt l (recordOf r′ .buyer) .0 + heldFrom (recordOf r′ .buyer) f + share (recordOf r′ .buyer) (e .to) (moneyOf e .0)
 
 pub record Fit (l : List Account) (n : ℕ) (f : Record) (e : Entry) (r′ : Receipt) : Type 0 where
   pub entry : EntryOk n e
@@ -53,14 +53,14 @@ pub fit-valid : {l : List Account} {n : ℕ} {f : Record} {e : Entry} {r′ : Re
 fit-valid {r′ = r′} F = receipt-valid r′ (F .known)
 
 -- from its buyer a lot holds all that it holds
-held-from : {x : ℕ} (f : Record) → x ≡ f .buyer → heldBy x f ≡ held f .0
-held-from f b = ap (λ (x : ℕ). heldBy x f) b ∙ held-own f
+held-from : {x : ℕ} (f : Record) → x ≡ f .buyer → heldFrom x f ≡ held f .0
+held-from f b = ap (λ (x : ℕ). heldFrom x f) b ∙ held-own f
 
 -- ── Common shapes ──────────────────────────────────────────────────────────────────────────────
 
 module _ {l : List Account} {f : Record} {e : Entry} {r′ : Receipt} (p : moneyOf e .0 ≡ 0) where
   -- nothing passes, and what the lot now holds its buyer has
-  pub holding : held (recordOf r′) .0 ≤ freeAt l (recordOf r′ .buyer) .0 + heldBy (recordOf r′ .buyer) f → Pays l f e r′
+  pub holding : held (recordOf r′) .0 ≤ freeAt l (recordOf r′ .buyer) .0 + heldFrom (recordOf r′ .buyer) f → Pays l f e r′
   holding h =
       record {
         to-some = λ q. absurd (omega arith);
@@ -78,7 +78,7 @@ module _ {l : List Account} {f : Record} {e : Entry} {r′ : Receipt} (p : money
 
 -- the payer has what passes, and the lot now holds nothing from anybody
 pub ending : {l : List Account} {f : Record} {e : Entry} {r′ : Receipt} → 0 < e .to → recordOf r′ .buyer ≡ 0
-    → moneyOf e .0 ≤ freeAt l (e .from) .0 + heldBy (e .from) f → Pays l f e r′
+    → moneyOf e .0 ≤ freeAt l (e .from) .0 + heldFrom (e .from) f → Pays l f e r′
 ending t b h = record { to-some = λ q. t; pass-fits = h; hold-fits = λ q. absurd (omega arith) }
 
 -- the buyer pays out of what the lot held, and the lot holds the rest, or no more than the rest
@@ -90,7 +90,7 @@ paying {l} {f} {e} {r′} t a b h =
       pass-fits = omega (arith, held-from f a);
       hold-fits = λ q.
           subst
-          (λ (x : ℕ). held (recordOf r′) .0 + share x (e .from) (moneyOf e .0) ≤ freeAt l x .0 + heldBy x f + share x (e .to) (moneyOf e .0))
+          (λ (x : ℕ). held (recordOf r′) .0 + share x (e .from) (moneyOf e .0) ≤ freeAt l x .0 + heldFrom x f + share x (e .to) (moneyOf e .0))
           b (omega (arith, held-from f a, share-same (e .from) (moneyOf e .0)));
     }
 
@@ -103,7 +103,7 @@ idle-in O = record { unregistered = λ e. absurd (omega (arith, O .owner .low));
 module _ (z : Zone) (e : Entry) (r′ : Receipt) (low : 0 < e .lot) (high : e .lot ≤ receiptCount) (G : Good z)
     (F : Fit (z .accounts) (e .lot) (recordAt z (e .lot)) e r′) where
   pub funded : Funded (z .accounts) (recordAt z (e .lot)) e (recordOf r′)
-  unfolding heldBy
+  unfolding heldFrom
   funded =
       let f : Record = recordAt z (e .lot) in
       let P : Pays (z .accounts) f e r′ = F .pays in

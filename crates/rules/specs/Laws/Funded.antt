@@ -11,7 +11,7 @@ use Rattle.zone.specs.declared.Account.{Account}
 use Rattle.zone.specs.declared.Hold.{Hold}
 use Rattle.zone.specs.declared.Receipt.{Receipt}
 use Rattle.zone.specs.declared.Record.{Record}
-use Rattle.zone.specs.Held.{holdOf, share, heldBy, heldSum, allMoney}
+use Rattle.zone.specs.Held.{holdOf, share, heldFrom, heldSum, allMoney}
 use Rattle.zone.specs.Laws.Held.{heldSum-set, heldSum-at}
 use Rattle.zone.specs.Record.{recordOf}
 use Rattle.zone.specs.Valid.{noReceipt}
@@ -24,7 +24,7 @@ use Rattle.rules.specs.View.{freeAt, frozenAt, receiptAt}
 
 module _ {l : List Account} {old : Hold} {s t : ℕ} {n : Fen} {new : Hold} (F : Funds l old s t n new) where
   abbrev l1 : List Account
-  l1 = release (old .by) (old .fen) l
+  l1 = release (old .from) (old .fen) l
 
   abbrev l2 : List Account
   l2 = debit s n l1
@@ -32,47 +32,47 @@ module _ {l : List Account} {old : Hold} {s t : ℕ} {n : Fen} {new : Hold} (F :
   abbrev l3 : List Account
   l3 = credit t n l2
 
-  from-in1 : s ≤ length (release (old .by) (old .fen) l)
-  from-in1 = rw (length-release l (old .by) (old .fen)) (F .from-in)
+  from-in1 : s ≤ length (release (old .from) (old .fen) l)
+  from-in1 = rw (length-release l (old .from) (old .fen)) (F .from-in)
 
-  to-in1 : t ≤ length (release (old .by) (old .fen) l)
-  to-in1 = rw (length-release l (old .by) (old .fen)) (F .to-in)
+  to-in1 : t ≤ length (release (old .from) (old .fen) l)
+  to-in1 = rw (length-release l (old .from) (old .fen)) (F .to-in)
 
-  to-in2 : t ≤ length (debit s n (release (old .by) (old .fen) l))
+  to-in2 : t ≤ length (debit s n (release (old .from) (old .fen) l))
   to-in2 = rw (length-debit l1 s n) to-in1
 
-  new-in3 : new .by ≤ length (credit t n (debit s n (release (old .by) (old .fen) l)))
-  new-in3 = rw (length-credit l2 t n, length-debit l1 s n, length-release l (old .by) (old .fen)) (F .new-in)
+  new-in3 : new .from ≤ length (credit t n (debit s n (release (old .from) (old .fen) l)))
+  new-in3 = rw (length-credit l2 t n, length-debit l1 s n, length-release l (old .from) (old .fen)) (F .new-in)
 
-  freed : (x : ℕ) → 0 < x → freeAt (release (old .by) (old .fen) l) x .0 ≡ freeAt l x .0 + share x (old .by) (old .fen .0)
-  freed x p = free-release l x (old .by) p (F .old-in) (old .fen)
+  freed : (x : ℕ) → 0 < x → freeAt (release (old .from) (old .fen) l) x .0 ≡ freeAt l x .0 + share x (old .from) (old .fen .0)
+  freed x p = free-release l x (old .from) p (F .old-in) (old .fen)
 
   -- the payer has what passes, once the old hold is freed
-  pub pass-free : n .0 ≤ freeAt (release (old .by) (old .fen) l) s .0
+  pub pass-free : n .0 ≤ freeAt (release (old .from) (old .fen) l) s .0
   pass-free = rw (freed s (F .from-some)) (F .pass-fits)
 
   -- the new holder has what is frozen, once the rest is done
-  pub hold-free : 0 < new .by → new .fen .0 ≤ freeAt (credit t n (debit s n (release (old .by) (old .fen) l))) (new .by) .0
+  pub hold-free : 0 < new .from → new .fen .0 ≤ freeAt (credit t n (debit s n (release (old .from) (old .fen) l))) (new .from) .0
   hold-free p =
-      omega (arith, freed (new .by) p, free-debit l1 (new .by) s p from-in1 n (λ _. pass-free), free-credit l2 (new .by) t p to-in2 n, F .hold-fits p)
+      omega (arith, freed (new .from) p, free-debit l1 (new .from) s p from-in1 n (λ _. pass-free), free-credit l2 (new .from) t p to-in2 n, F .hold-fits p)
 
   -- all money, after each move
-  pub all-released : allMoney (release (old .by) (old .fen) l) ≡ allMoney l
-  all-released = all-release l (old .by) (old .fen) (F .old-in) (F .frozen-fits)
+  pub all-released : allMoney (release (old .from) (old .fen) l) ≡ allMoney l
+  all-released = all-release l (old .from) (old .fen) (F .old-in) (F .frozen-fits)
 
-  pub all-debited : allMoney (debit s n (release (old .by) (old .fen) l)) + n .0 ≡ allMoney l
+  pub all-debited : allMoney (debit s n (release (old .from) (old .fen) l)) + n .0 ≡ allMoney l
   all-debited = omega (arith, all-released, all-debit l1 s n (F .from-some) from-in1 pass-free)
 
-  pub all-credited : allMoney (credit t n (debit s n (release (old .by) (old .fen) l))) ≡ allMoney l
+  pub all-credited : allMoney (credit t n (debit s n (release (old .from) (old .fen) l))) ≡ allMoney l
   all-credited = all-pass l1 s t n (F .from-some) from-in1 to-in1 (F .to-some) pass-free ∙ all-released
 
-  pub all-frozen : allMoney (freeze (new .by) (new .fen) (credit t n (debit s n (release (old .by) (old .fen) l)))) ≡ allMoney l
-  all-frozen = all-freeze l3 (new .by) (new .fen) new-in3 hold-free ∙ all-credited
+  pub all-frozen : allMoney (freeze (new .from) (new .fen) (credit t n (debit s n (release (old .from) (old .fen) l)))) ≡ allMoney l
+  all-frozen = all-freeze l3 (new .from) (new .fen) new-in3 hold-free ∙ all-credited
 
   -- what account x has, and has frozen, after it
   pub money-after : (x : ℕ) → 0 < x →
-      freeAt (freeze (new .by) (new .fen) (credit t n (debit s n (release (old .by) (old .fen) l)))) x .0
-      + frozenAt (freeze (new .by) (new .fen) (credit t n (debit s n (release (old .by) (old .fen) l)))) x .0 + share x s (n .0)
+      freeAt (freeze (new .from) (new .fen) (credit t n (debit s n (release (old .from) (old .fen) l)))) x .0
+      + frozenAt (freeze (new .from) (new .fen) (credit t n (debit s n (release (old .from) (old .fen) l)))) x .0 + share x s (n .0)
       ≡ freeAt l x .0 + frozenAt l x .0 + share x t (n .0)
   money-after x p =
       omega (
@@ -80,23 +80,23 @@ module _ {l : List Account} {old : Hold} {s t : ℕ} {n : Fen} {new : Hold} (F :
         freed x p,
         free-debit l1 x s p from-in1 n (λ _. pass-free),
         free-credit l2 x t p to-in2 n,
-        free-freeze l3 x (new .by) p new-in3 (new .fen) hold-free,
-        frozen-freeze l3 x (new .by) p new-in3 (new .fen),
+        free-freeze l3 x (new .from) p new-in3 (new .fen) hold-free,
+        frozen-freeze l3 x (new .from) p new-in3 (new .fen),
         frozen-credit l2 x t p to-in2 n,
         frozen-debit l1 x s p from-in1 n,
-        frozen-release l x (old .by) p (F .old-in) (old .fen) (F .frozen-fits),
+        frozen-release l x (old .from) p (F .old-in) (old .fen) (F .frozen-fits),
       )
 
   pub frozen-after : (x : ℕ) → 0 < x →
-      frozenAt (freeze (new .by) (new .fen) (credit t n (debit s n (release (old .by) (old .fen) l)))) x .0 + share x (old .by) (old .fen .0)
-      ≡ frozenAt l x .0 + share x (new .by) (new .fen .0)
+      frozenAt (freeze (new .from) (new .fen) (credit t n (debit s n (release (old .from) (old .fen) l)))) x .0 + share x (old .from) (old .fen .0)
+      ≡ frozenAt l x .0 + share x (new .from) (new .fen .0)
   frozen-after x p =
       omega (
         arith,
-        frozen-freeze l3 x (new .by) p new-in3 (new .fen),
+        frozen-freeze l3 x (new .from) p new-in3 (new .fen),
         frozen-credit l2 x t p to-in2 n,
         frozen-debit l1 x s p from-in1 n,
-        frozen-release l x (old .by) p (F .old-in) (old .fen) (F .frozen-fits),
+        frozen-release l x (old .from) p (F .old-in) (old .fen) (F .frozen-fits),
       )
 
 -- ── An event ───────────────────────────────────────────────────────────────────────────────────
@@ -110,10 +110,10 @@ module _ (l : List Account) (f : Record) (e : Entry) (f′ : Record) where
   pub record Booked (x : ℕ) : Type 0 where
     pub money : freeAt (accountsAfter f e f′ l) x .0 + frozenAt (accountsAfter f e f′ l) x .0 + share x (e .from) (moneyOf e .0)
         ≡ freeAt l x .0 + frozenAt l x .0 + share x (e .to) (moneyOf e .0)
-    pub frozen : frozenAt (accountsAfter f e f′ l) x .0 + heldBy x f ≡ frozenAt l x .0 + heldBy x f′
+    pub frozen : frozenAt (accountsAfter f e f′ l) x .0 + heldFrom x f ≡ frozenAt l x .0 + heldFrom x f′
 
   pub booked : Funded l f e f′ → (x : ℕ) → 0 < x → Booked x
-  unfolding accountsAfter heldBy
+  unfolding accountsAfter heldFrom
   booked F x p = record { money = money-after F x p; frozen = frozen-after F x p }
 
   pub total-after : Funded l f e f′ → allMoney (accountsAfter f e f′ l) ≡ allMoney l
@@ -123,12 +123,12 @@ module _ (l : List Account) (f : Record) (e : Entry) (f′ : Record) where
 -- ── The sums held, when one lot changes ────────────────────────────────────────────────────────
 
 pub heldSum-put : (x : ℕ) (l : List Receipt) (k : ℕ) (r : Receipt) → 0 < k → k ≤ length l →
-    heldSum recordOf x (put l k r) + heldBy x (recordOf (receiptAt l k)) ≡ heldSum recordOf x l + heldBy x (recordOf r)
+    heldSum recordOf x (put l k r) + heldFrom x (recordOf (receiptAt l k)) ≡ heldSum recordOf x l + heldFrom x (recordOf r)
 unfolding receiptAt nth put
 heldSum-put x l zero r p h = absurd (not-suc-le-zero p)
 heldSum-put x l (suc k) r p h = heldSum-set recordOf x l k r noReceipt h
 
-pub heldSum-nth : (x : ℕ) (l : List Receipt) (k : ℕ) → 0 < k → k ≤ length l → heldBy x (recordOf (receiptAt l k)) ≤ heldSum recordOf x l
+pub heldSum-nth : (x : ℕ) (l : List Receipt) (k : ℕ) → 0 < k → k ≤ length l → heldFrom x (recordOf (receiptAt l k)) ≤ heldSum recordOf x l
 unfolding receiptAt nth
 heldSum-nth x l zero p h = absurd (not-suc-le-zero p)
 heldSum-nth x l (suc k) p h = heldSum-at recordOf x l k noReceipt h

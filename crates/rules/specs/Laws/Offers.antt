@@ -13,7 +13,7 @@ use Rattle.zone.specs.declared.Bid.{Bid}
 use Rattle.zone.specs.declared.Lot.the-variants.{Idle}
 use Rattle.zone.specs.declared.Record.{Record}
 use Rattle.zone.specs.declared.Zone.{Zone}
-use Rattle.zone.specs.Held.{held, heldBy}
+use Rattle.zone.specs.Held.{held, heldFrom}
 use Rattle.zone.specs.Laws.Lots.{ListingIn, BidIn}
 use Rattle.zone.specs.Laws.Tests.{both, InRange, range-in, price-at-most}
 use Rattle.zone.specs.Record.{recordOf, listingOf, bidOf}
@@ -102,7 +102,7 @@ module _ (z : Zone) (day : InRange 1 lastDay (z .day)) (c : Call) (n : ℕ) (f :
 
   -- a bid on a listing with the money for its deposit, struck and standing
   module _ (b : Bid) (s : InRange 1 2 (f .state)) (B : BidIn (listingOf f) b)
-      (m : perReceipt ≤ freeAt (z .accounts) (b .buyer) .0 + heldBy (b .buyer) f) where
+      (m : perReceipt ≤ freeAt (z .accounts) (b .buyer) .0 + heldFrom (b .buyer) f) where
     struck-fit : FitsAt z n f (bidStruck (viewOf z (c .account) f) n f b)
     unfolding moneyOf held recordOf viewOf
     struck-fit =
@@ -145,7 +145,7 @@ module _ (z : Zone) (day : InRange 1 lastDay (z .day)) (c : Call) (n : ℕ) (f :
         differ = eqb-false _ _ (not-true _ (by-party P));
         pays = not-false _ (P .payable);
       } in
-      let m : perReceipt ≤ freeAt (z .accounts) (c .account) .0 + heldBy (c .account) f = ltb-false _ _ (P .money) in
+      let m : perReceipt ≤ freeAt (z .accounts) (c .account) .0 + heldFrom (c .account) f = ltb-false _ _ (P .money) in
       chosen (meetsAsk (viewOf z (c .account) f) (b .price)) _ _ (λ _. struck-fit b s B m) (λ _. stands-fit b s B m)
 
   pub marketBid-fit : askOk (askAt (z .asks) (f .contract)) ≡ true → Tested z c f 7

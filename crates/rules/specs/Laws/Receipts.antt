@@ -12,7 +12,7 @@ use Rattle.units.specs.Laws.Bounds.{mostFull, first-rest, part-le-rest}
 use Rattle.units.specs.Payments.{firstPayment, partPayment, perReceipt}
 use Rattle.units.specs.Ranges.{within, accountCount}
 use Rattle.zone.specs.declared.Record.{Record}
-use Rattle.zone.specs.Held.{full, rest, held, heldBy}
+use Rattle.zone.specs.Held.{full, rest, held, heldFrom}
 use Rattle.zone.specs.Laws.Facts.{Owned, InvoicesIn, Known, known, owner-some, bounds}
 use Rattle.zone.specs.Laws.Held.{share-same, full-ge, full-le}
 use Rattle.zone.specs.Laws.Lots.{ListingIn, BidIn, TradeIn}
@@ -105,8 +105,8 @@ module _ (f : Record) where
   held-rest s = rw s
 
   -- from its buyer it holds all that it holds
-  pub held-own : heldBy (f .buyer) f ≡ held f .0
-  unfolding heldBy
+  pub held-own : heldFrom (f .buyer) f ≡ held f .0
+  unfolding heldFrom
   held-own = share-same (f .buyer) (held f .0)
 
 -- ── State 6 ────────────────────────────────────────────────────────────────────────────────────

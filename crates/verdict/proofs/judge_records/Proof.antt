@@ -47,14 +47,14 @@ hold-in-requires c κs = c .record-ok .ensures
 held : (c : tie.After-hold-in Inv-loop μ-loop) → HoldBounds (c .hold-in .result)
 held c = rw (c .hold-in .ensures) (hold-bounds _)
 
-cast-by : tie.Need-cast-by Inv-loop μ-loop
-cast-by c = search needs
+cast-from : tie.Need-cast-from Inv-loop μ-loop
+cast-from c = search needs
 
 mul-t11 : tie.Need-mul-t11 Inv-loop μ-loop
 mul-t11 c = search needs
 
 element-copy-out-t14 : tie.Need-element-copy-out-t14 Inv-loop μ-loop
-element-copy-out-t14 c = omega (arith, held (c .before) .by)
+element-copy-out-t14 c = omega (arith, held (c .before) .from)
 
 add-t15 : tie.Need-add-t15 Inv-loop μ-loop
 add-t15 c =
@@ -62,14 +62,14 @@ add-t15 c =
     let h = c .before .before .hold-in in
     let b = held (c .before .before) in
     let f : ℕ → Record = λ k. recordIn (receiptRun (now (c .before .before .before .before .before .before .before .before .args .image)) k) in
-    let m : getD (l .sums) (h .result .by) (fen 0) .0 ≤ mostFull * length (table (l .i) f) = rw (l .inv .1) (sums-le (table (l .i) f) (h .result .by) (b .by)) in
+    let m : getD (l .sums) (h .result .from) (fen 0) .0 ≤ mostFull * length (table (l .i) f) = rw (l .inv .1) (sums-le (table (l .i) f) (h .result .from) (b .from)) in
     omega (arith, length-table (l .i) f)
 
 mul-sums : tie.Need-mul-sums Inv-loop μ-loop
 mul-sums c = search needs
 
 array-set-from-sums : tie.Need-array-set-from-sums Inv-loop μ-loop
-array-set-from-sums c = omega (arith, held (c .before .before) .by)
+array-set-from-sums c = omega (arith, held (c .before .before) .from)
 
 add-i : tie.Need-add-i Inv-loop μ-loop
 add-i c = search needs
@@ -110,7 +110,7 @@ judge-records-spec =
     record-at-requires
     record-ok-requires
     hold-in-requires
-    cast-by
+    cast-from
     mul-t11
     element-copy-out-t14
     add-t15

@@ -12,7 +12,7 @@ use Rattle.units.specs.Payments.{fen}
 use Rattle.units.specs.Ranges.{moneyLimit}
 use Rattle.zone.specs.declared.Account.{Account}
 use Rattle.zone.specs.declared.Record.{Record}
-use Rattle.zone.specs.Held.{heldBy, allMoney}
+use Rattle.zone.specs.Held.{heldFrom, allMoney}
 use Rattle.zone.specs.Valid.{all, recordValid}
 use Rattle.verdict.specs.Sums.{heldValid, moneyUpTo, frozenFrom}
 
@@ -37,7 +37,7 @@ pub money-limit : (l : List Account) → moneyUpTo l ≤ moneyLimit + 1
 unfolding moneyUpTo
 money-limit l = omega arith
 
-pub held-one : (x : ℕ) (rs : List Record) (r : Record) → heldValid x (rs ++ (r ∷ [])) ≡ heldValid x rs + cond (recordValid r) (heldBy x r) 0
+pub held-one : (x : ℕ) (rs : List Record) (r : Record) → heldValid x (rs ++ (r ∷ [])) ≡ heldValid x rs + cond (recordValid r) (heldFrom x r) 0
 unfolding heldValid
 held-one x [] r = omega arith
 held-one x (q ∷ rs) r = rw (held-one x rs r) (omega arith)

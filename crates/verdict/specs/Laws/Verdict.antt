@@ -17,7 +17,7 @@ use Rattle.units.specs.Ranges.{within, accountCount, moneyLimit, lastDay}
 use Rattle.zone.specs.declared.Account.{Account}
 use Rattle.zone.specs.declared.Hold.{Hold}
 use Rattle.zone.specs.declared.Record.{Record}
-use Rattle.zone.specs.Held.{holdOf, share, heldBy, heldSum, allMoney}
+use Rattle.zone.specs.Held.{holdOf, share, heldFrom, heldSum, allMoney}
 use Rattle.zone.specs.Valid.{all, askOk, recordValid, frozenOk, booksOk}
 use Rattle.zone.specs.Laws.Facts.{bounds}
 use Rattle.zone.specs.Laws.Held.{held-le, share-same, share-other, share-le}
@@ -34,26 +34,26 @@ holdIn r = cond (recordValid r) (holdOf r) noHold
 
 -- it is held from nobody or from an account, and is at most the largest full payment
 pub record HoldBounds (h : Hold) : Type 0 where
-  pub by : h .by ≤ accountCount
+  pub from : h .from ≤ accountCount
   pub fen : h .fen .0 ≤ mostFull
 
 pub hold-bounds : (r : Record) → HoldBounds (holdIn r)
 hold-bounds r = go (recordValid r) refl
   where
     go : (v : Bool) → recordValid r ≡ v → HoldBounds (cond v (holdOf r) noHold)
-    go true e = record { by = bounds r e .buyer; fen = held-le r e }
-    go false e = record { by = omega arith; fen = omega arith }
+    go true e = record { from = bounds r e .buyer; fen = held-le r e }
+    go false e = record { from = omega arith; fen = omega arith }
 
 nothing-either-way : (b : Bool) → _≡_ {A = ℕ} 0 (cond b 0 0)
 nothing-either-way true = refl
 nothing-either-way false = refl
 
 -- a valid record's part in the sum of x
-valid-share : (x : ℕ) (r : Record) → cond (recordValid r) (heldBy x r) 0 ≡ share x (holdIn r .by) (holdIn r .fen .0)
-unfolding heldBy share
+valid-share : (x : ℕ) (r : Record) → cond (recordValid r) (heldFrom x r) 0 ≡ share x (holdIn r .from) (holdIn r .fen .0)
+unfolding heldFrom share
 valid-share x r = go (recordValid r)
   where
-    go : (v : Bool) → cond v (heldBy x r) 0 ≡ share x (cond v (holdOf r) noHold .by) (cond v (holdOf r) noHold .fen .0)
+    go : (v : Bool) → cond v (heldFrom x r) 0 ≡ share x (cond v (holdOf r) noHold .from) (cond v (holdOf r) noHold .fen .0)
     go true = refl
     go false = nothing-either-way (eqb x 0)
 
@@ -62,8 +62,8 @@ unfolding heldValid
 heldValid-le x [] = omega arith
 heldValid-le x (r ∷ rs) =
     let h = holdIn r in
-    let e : cond (recordValid r) (heldBy x r) 0 ≡ share x (h .by) (h .fen .0) = valid-share x r in
-    omega (arith, e, share-le x (h .by) (h .fen .0), hold-bounds r .fen, heldValid-le x rs)
+    let e : cond (recordValid r) (heldFrom x r) 0 ≡ share x (h .from) (h .fen .0) = valid-share x r in
+    omega (arith, e, share-le x (h .from) (h .fen .0), hold-bounds r .fen, heldValid-le x rs)
 
 -- a sum, and that it is small
 pub sums-at : (rs : List Record) (x : ℕ) → x ≤ accountCount → getD (heldSums rs) x (fen 0) .0 ≡ heldValid x rs
@@ -75,17 +75,17 @@ sums-le rs x h = rw (sums-at rs x h) (heldValid-le x rs)
 
 -- a hold added at its place
 abbrev pub addHold : List Fen → Hold → List Fen
-addHold sums h = set sums (h .by) (fen (getD sums (h .by) (fen 0) .0 + h .fen .0))
+addHold sums h = set sums (h .from) (fen (getD sums (h .from) (fen 0) .0 + h .fen .0))
 
 -- one turn of the walk over the records
 pub sums-more : (rs : List Record) (r : Record) → addHold (heldSums rs) (holdIn r) ≡ heldSums (rs ++ (r ∷ []))
 unfolding heldSums
 sums-more rs r =
     let h = holdIn r in
-    let more : (x : ℕ) → heldValid x (rs ++ (r ∷ [])) ≡ heldValid x rs + share x (h .by) (h .fen .0) = λ x. held-one x rs r ∙ ap (λ (n : ℕ). heldValid x rs + n) (valid-share x r) in
-    set-table (accountCount + 1) (λ (x : ℕ). fen (heldValid x rs)) (λ (x : ℕ). fen (heldValid x (rs ++ (r ∷ [])))) (h .by) _ (fen 0) (omega (arith, hold-bounds r .by))
-    (ap fen (ap (λ (n : ℕ). n + h .fen .0) (sums-at rs (h .by) (hold-bounds r .by)) ∙ sym (more (h .by) ∙ ap (λ (n : ℕ). heldValid (h .by) rs + n) (share-same (h .by) (h .fen .0)))))
-    (λ x p ne. ap fen (sym (more x ∙ rw (share-other x (h .by) (h .fen .0) ne) (omega arith))))
+    let more : (x : ℕ) → heldValid x (rs ++ (r ∷ [])) ≡ heldValid x rs + share x (h .from) (h .fen .0) = λ x. held-one x rs r ∙ ap (λ (n : ℕ). heldValid x rs + n) (valid-share x r) in
+    set-table (accountCount + 1) (λ (x : ℕ). fen (heldValid x rs)) (λ (x : ℕ). fen (heldValid x (rs ++ (r ∷ [])))) (h .from) _ (fen 0) (omega (arith, hold-bounds r .from))
+    (ap fen (ap (λ (n : ℕ). n + h .fen .0) (sums-at rs (h .from) (hold-bounds r .from)) ∙ sym (more (h .from) ∙ ap (λ (n : ℕ). heldValid (h .from) rs + n) (share-same (h .from) (h .fen .0)))))
+    (λ x p ne. ap fen (sym (more x ∙ rw (share-other x (h .from) (h .fen .0) ne) (omega arith))))
 
 -- ── Where all records are valid ────────────────────────────────────────────────────────────────
 

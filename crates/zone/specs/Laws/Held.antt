@@ -23,7 +23,7 @@ use Rattle.zone.specs.declared.Listing.{Listing}
 use Rattle.zone.specs.declared.Lot.{Lot}
 use Rattle.zone.specs.declared.Lot.the-variants.{Idle, Listed, BidStands, Struck, Lodged, Settled, FirstPaid, PenaltyDue}
 use Rattle.zone.specs.declared.Record.{Record}
-use Rattle.zone.specs.Held.{full, rest, held, share, heldBy, heldSum, allMoney}
+use Rattle.zone.specs.Held.{full, rest, held, share, heldFrom, heldSum, allMoney}
 use Rattle.zone.specs.Record.{recordAs, recordOf}
 use Rattle.zone.specs.Valid.{all, emptyAccount, recordValid}
 use Rattle.zone.specs.Laws.Tests.{both, price-at-most, basis-at-most, InRange, in-range, filled-either}
@@ -142,20 +142,20 @@ share-le x a n = go (eqb x a)
     go false = omega arith
 
 -- what a valid record holds from one account
-pub heldBy-le : (x : ℕ) (r : Record) → recordValid r ≡ true → heldBy x r ≤ mostFull
-unfolding heldBy
-heldBy-le x r h = omega (arith, share-le x (r .buyer) (held r .0), held-le r h)
+pub heldFrom-le : (x : ℕ) (r : Record) → recordValid r ≡ true → heldFrom x r ≤ mostFull
+unfolding heldFrom
+heldFrom-le x r h = omega (arith, share-le x (r .buyer) (held r .0), held-le r h)
 
 module _ {A : Type 0} (rec : A → Record) (x : ℕ) where
   -- the sum after one lot has changed
-  pub heldSum-set : (l : List A) (k : ℕ) (r d : A) → k < length l → heldSum rec x (set l k r) + heldBy x (rec (getD l k d)) ≡ heldSum rec x l + heldBy x (rec r)
+  pub heldSum-set : (l : List A) (k : ℕ) (r d : A) → k < length l → heldSum rec x (set l k r) + heldFrom x (rec (getD l k d)) ≡ heldSum rec x l + heldFrom x (rec r)
   unfolding heldSum
   heldSum-set [] k r d h = absurd (not-suc-le-zero h)
   heldSum-set (a ∷ l) zero r d h = omega arith
   heldSum-set (a ∷ l) (suc k) r d h = omega (arith, heldSum-set l k r d (le-of-suc-le-suc h))
 
   -- what one lot holds is part of the sum
-  pub heldSum-at : (l : List A) (k : ℕ) (d : A) → k < length l → heldBy x (rec (getD l k d)) ≤ heldSum rec x l
+  pub heldSum-at : (l : List A) (k : ℕ) (d : A) → k < length l → heldFrom x (rec (getD l k d)) ≤ heldSum rec x l
   unfolding heldSum
   heldSum-at [] k d h = absurd (not-suc-le-zero h)
   heldSum-at (a ∷ l) zero d h = omega arith
@@ -167,7 +167,7 @@ module _ {A : Type 0} (rec : A → Record) (x : ℕ) where
   heldSum-le [] h = omega arith
   heldSum-le (a ∷ l) h =
       let t = both _ _ h in
-      omega (arith, heldBy-le x (rec a) (t .0), heldSum-le l (t .1))
+      omega (arith, heldFrom-le x (rec a) (t .0), heldSum-le l (t .1))
 
 -- ── The accounts ───────────────────────────────────────────────────────────────────────────────
 

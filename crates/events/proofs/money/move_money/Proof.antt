@@ -11,13 +11,13 @@ use Rattle.events.proofs.money.move_money.Statement.{statement}
 use Rattle.events.proofs.money.move_money.Tie as tie
 
 -- the accounts after the first move, the second and the third
-one : (c : tie.After-release-to) → Moved (now (c .before .before .before .before .before .args .image)) (c .release-to .last .0) (release (c .before .before .before .before .before .args .old .by) (c .before .before .before .before .before .args .old .fen) (decode (now (c .before .before .before .before .before .args .image)) .accounts))
+one : (c : tie.After-release-to) → Moved (now (c .before .before .before .before .before .args .image)) (c .release-to .last .0) (release (c .before .before .before .before .before .args .old .from) (c .before .before .before .before .before .args .old .fen) (decode (now (c .before .before .before .before .before .args .image)) .accounts))
 one c = released (now (c .before .before .before .before .before .args .image)) (c .before .before .before .before .before .pre .1) (c .before .before .before .before .before .pre .2) (c .release-to .ensures)
 
-two : (c : tie.After-debit-from) → Moved (now (c .before .before .before .before .before .before .before .before .before .args .image)) (c .debit-from .last .0) (debit (c .before .before .before .before .before .before .before .before .before .args .from) (c .before .before .before .before .before .before .before .before .before .args .n) (release (c .before .before .before .before .before .before .before .before .before .args .old .by) (c .before .before .before .before .before .before .before .before .before .args .old .fen) (decode (now (c .before .before .before .before .before .before .before .before .before .args .image)) .accounts)))
+two : (c : tie.After-debit-from) → Moved (now (c .before .before .before .before .before .before .before .before .before .args .image)) (c .debit-from .last .0) (debit (c .before .before .before .before .before .before .before .before .before .args .from) (c .before .before .before .before .before .before .before .before .before .args .n) (release (c .before .before .before .before .before .before .before .before .before .args .old .from) (c .before .before .before .before .before .before .before .before .before .args .old .fen) (decode (now (c .before .before .before .before .before .before .before .before .before .args .image)) .accounts)))
 two c = debited (now (c .before .before .before .before .before .before .before .before .before .args .image)) (c .before .before .before .before .before .before .before .before .before .pre .1) (c .before .before .before .before .before .before .before .before .before .pre .2) (one (c .before .before .before .before)) (c .debit-from .ensures)
 
-three : (c : tie.After-credit-to) → Moved (now (c .before .before .before .before .before .before .before .before .before .before .before .before .before .args .image)) (c .credit-to .last .0) (credit (c .before .before .before .before .before .before .before .before .before .before .before .before .before .args .to) (c .before .before .before .before .before .before .before .before .before .before .before .before .before .args .n) (debit (c .before .before .before .before .before .before .before .before .before .before .before .before .before .args .from) (c .before .before .before .before .before .before .before .before .before .before .before .before .before .args .n) (release (c .before .before .before .before .before .before .before .before .before .before .before .before .before .args .old .by) (c .before .before .before .before .before .before .before .before .before .before .before .before .before .args .old .fen) (decode (now (c .before .before .before .before .before .before .before .before .before .before .before .before .before .args .image)) .accounts))))
+three : (c : tie.After-credit-to) → Moved (now (c .before .before .before .before .before .before .before .before .before .before .before .before .before .args .image)) (c .credit-to .last .0) (credit (c .before .before .before .before .before .before .before .before .before .before .before .before .before .args .to) (c .before .before .before .before .before .before .before .before .before .before .before .before .before .args .n) (debit (c .before .before .before .before .before .before .before .before .before .before .before .before .before .args .from) (c .before .before .before .before .before .before .before .before .before .before .before .before .before .args .n) (release (c .before .before .before .before .before .before .before .before .before .before .before .before .before .args .old .from) (c .before .before .before .before .before .before .before .before .before .before .before .before .before .args .old .fen) (decode (now (c .before .before .before .before .before .before .before .before .before .before .before .before .before .args .image)) .accounts))))
 three c = credited (now (c .before .before .before .before .before .before .before .before .before .before .before .before .before .args .image)) (c .before .before .before .before .before .before .before .before .before .before .before .before .before .pre .1) (c .before .before .before .before .before .before .before .before .before .before .before .before .before .pre .2) (two (c .before .before .before .before)) (c .credit-to .ensures)
 
 release-to-requires : tie.Need-release-to-requires
@@ -45,7 +45,7 @@ same-length : tie.Need-same-length
 same-length c = search needs
 
 returns : tie.Need-returns
-returns c = next (freeze (c .before .before .before .before .before .before .before .before .before .before .before .before .before .before .before .before .before .before .before .args .new .by) (c .before .before .before .before .before .before .before .before .before .before .before .before .before .before .before .before .before .before .before .args .new .fen)) (three (c .before .before .before .before .before .before)) (c .before .before .freeze-from .ensures)
+returns c = next (freeze (c .before .before .before .before .before .before .before .before .before .before .before .before .before .before .before .before .before .before .before .args .new .from) (c .before .before .before .before .before .before .before .before .before .before .before .before .before .before .before .before .before .before .before .args .new .fen)) (three (c .before .before .before .before .before .before)) (c .before .before .freeze-from .ensures)
 
 pub move-money-spec : {M : Type 1} → statement M
 move-money-spec =

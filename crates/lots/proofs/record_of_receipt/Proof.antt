@@ -14,8 +14,8 @@ use Rattle.rules.specs.View.{receiptAt}
 use Rattle.events.specs.Laws.Moved.{record-in-place}
 use Rattle.lots.specs.Laws.Past.{nth-outside}
 use borrow.Author.Needs.{needs}
-use Rattle.lots.proofs.record_numbered.Statement.{statement}
-use Rattle.lots.proofs.record_numbered.Tie as tie
+use Rattle.lots.proofs.record_of_receipt.Statement.{statement}
+use Rattle.lots.proofs.record_of_receipt.Tie as tie
 
 inside : (c : tie.Else1) → InRange 1 receiptCount (c .before .before .before .args .n)
 inside c = range-in (sym (c .before .is-receipt .ensures) ∙ not-false _ (c .if1 .left))
@@ -47,8 +47,8 @@ returns-2 c =
     let in-table = inside (c .before) in
     c .record-at .ensures ∙ record-in-place _ (c .before .before .before .before .pre .0) (c .before .before .before .before .pre .1) (c .before .before .before .before .args .n) (in-table .low) (in-table .high)
 
-pub record-numbered-spec : {M : Type 1} → statement M
-record-numbered-spec =
+pub record-of-receipt-spec : {M : Type 1} → statement M
+record-of-receipt-spec =
     tie.close
     (tie.spec
     is-receipt-requires

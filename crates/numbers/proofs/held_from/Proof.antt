@@ -5,34 +5,34 @@ use native.Mathlib.Omega.{arith}
 use borrow.Author.Tests.{eq-eqb, ne-eqb}
 use lib.Dec.{eqb}
 use Rattle.zone.specs.declared.Hold.{Hold}
-use Rattle.zone.specs.Held.{heldBy, share}
-use Rattle.zone.specs.Laws.Held.{heldBy-le}
+use Rattle.zone.specs.Held.{heldFrom, share}
+use Rattle.zone.specs.Laws.Held.{heldFrom-le}
 use borrow.Author.Needs.{needs}
-use Rattle.numbers.proofs.held_by.Statement.{statement}
-use Rattle.numbers.proofs.held_by.Tie as tie
+use Rattle.numbers.proofs.held_from.Statement.{statement}
+use Rattle.numbers.proofs.held_from.Tie as tie
 
 -- a lot holds from its buyer
-by-buyer : (c : tie.After-hold-of) → c .hold-of .result .by ≡ c .before .args .f .buyer
-by-buyer c = ap (λ (h : Hold). h .by) (c .hold-of .ensures)
+by-buyer : (c : tie.After-hold-of) → c .hold-of .result .from ≡ c .before .args .f .buyer
+by-buyer c = ap (λ (h : Hold). h .from) (c .hold-of .ensures)
 
 hold-of-requires : tie.Need-hold-of-requires
 hold-of-requires c κs = search needs
 
 returns : tie.Need-returns
-unfolding heldBy share
+unfolding heldFrom share
 returns c =
     let a = c .before .before .before .before .args .a in
     let f = c .before .before .before .before .args .f in
     let same : eqb a (f .buyer) ≡ true = eq-eqb _ _ (c .if1 .taken ∙ by-buyer (c .before .before .before)) in
-    let e : c .before .before .before .hold-of .result .fen .0 ≡ heldBy a f = rw (same, c .before .before .before .hold-of .ensures) in
-    (e, rw e (omega (arith, heldBy-le a f (c .before .before .before .before .pre))))
+    let e : c .before .before .before .hold-of .result .fen .0 ≡ heldFrom a f = rw (same, c .before .before .before .hold-of .ensures) in
+    (e, rw e (omega (arith, heldFrom-le a f (c .before .before .before .before .pre))))
 
 returns-2 : tie.Need-returns-2
-unfolding heldBy share
+unfolding heldFrom share
 returns-2 c =
     let a = c .before .before .before .before .args .a in
     let f = c .before .before .before .before .args .f in
     (rw (ne-eqb a (f .buyer) (λ e. c .if1 .left (e ∙ sym (by-buyer (c .before .before .before))))), omega arith)
 
-pub held-by-spec : {M : Type 1} → statement M
-held-by-spec = tie.close (tie.spec hold-of-requires returns returns-2)
+pub held-from-spec : {M : Type 1} → statement M
+held-from-spec = tie.close (tie.spec hold-of-requires returns returns-2)
