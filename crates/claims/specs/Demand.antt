@@ -1,4 +1,4 @@
--- Demand 3 (01 History 8, 9): what holds after every list of calls on a fresh image, refused ones among them, with buffers of any length
+-- Demand 3 (01 History 8 to 11): what holds after every list of calls on a fresh image, refused ones among them, with buffers of any length
 -- and content. The history is fed from the call records and the answers as they were on return; nothing comes from the image. Free, frozen
 -- and owner are those of the image after the list. The proof is in Laws/; nothing of it is needed to read this page.
 -- Assumes nothing.
@@ -34,15 +34,18 @@ pub data MadeFrom (start : List ℕ) : List Exchange → List ℕ → Type 0 whe
 
 -- ── What the history table is fed ──────────────────────────────────────────────────────────────
 
+-- of an accepted call the entries of its answer, of a refused one its number alone
 abbrev pub replyOf : ℕ → List ℕ → Reply
 replyOf zero answer = acceptedWith (entriesIn answer)
 replyOf (suc n) answer = refusedWith (suc n)
 
+-- the fields of the call record, and the reply (01 History 1)
 abbrev pub fed : Exchange → Call × Reply
 fed x = (callIn (x .call), replyOf (x .number) (x .answer))
 
 -- ── The four sentences ─────────────────────────────────────────────────────────────────────────
 
+-- What the history of a list says of the zone after it. Accounts and receipts are those that there are; `history` takes the newest call first.
 pub record Holds (list : List (Call × Reply)) (z : Zone) : Type 0 where
   -- the books balance for every account: what it has, took out and passed on is what it paid in and was passed
   pub books : (x : ℕ) → 1 ≤ x → x ≤ accountCount →
@@ -63,6 +66,7 @@ pub record KeepsImage (image : List ℕ) (number : ℕ) (image′ : List ℕ) : 
   pub accepted : number ≡ 0 → validImage image′ ≡ true
   pub refused : (n : ℕ) → number ≡ suc n → image′ ≡ image
 
+-- of every call that meets the contract of `crz_call`
 abbrev pub ImageKept : Type 0
 ImageKept =
     (image call answer : List ℕ) (number : ℕ) (image′ answer′ : List ℕ) → Returned image call answer number image′ answer′
@@ -71,6 +75,10 @@ ImageKept =
 -- a valid image stays one over every list of calls
 abbrev pub StaysValid : Type 0
 StaysValid = (start : List ℕ) (list : List Exchange) (image : List ℕ) → validImage start ≡ true → MadeFrom start list image → validImage image ≡ true
+
+-- the image that demand 3's lists start from is valid, and with `StaysValid` every image after them
+abbrev pub FreshIsValid : Type 0
+FreshIsValid = validImage (encode freshZone) ≡ true
 
 -- demand 3: the four sentences, for every list of calls from a fresh image on
 abbrev pub Demand3 : Type 0

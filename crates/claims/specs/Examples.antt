@@ -18,6 +18,7 @@ use Rattle.claims.specs.Words.{payIn, registers, lists, bids, bidsMarket
 abbrev market : ℕ → ℤ → ℕ → ℕ → List Call
 market weight basis days paidIn = payIn 2 paidIn ∷ registers 1 7 weight ∷ lists 1 7 1 days basis ∷ []
 
+-- the replies to these three calls
 abbrev opened : List Reply
 opened = noEntries ∷ oneEntry 7 1 1 0 0 ∷ oneEntry 7 2 1 0 0 ∷ []
 
@@ -30,11 +31,13 @@ abbrev days : ℕ → List Call → List Call
 days zero calls = calls
 days (suc n) calls = morningClose ∷ dayClose ∷ days n calls
 
+-- the due day of the lot after the calls
 abbrev dueAfter : List Call → ℕ
 dueAfter calls = recordAt (zoneAfter calls freshZone) 7 .due
 
-abbrev freeAfter : List Call → ℕ
-freeAfter calls = freeAt (zoneAfter calls freshZone .accounts) 2 .0
+-- free money of an account after the calls
+abbrev freeAfter : ℕ → List Call → ℕ
+freeAfter account calls = freeAt (zoneAfter calls freshZone .accounts) account .0
 
 pub record FourteenExamples : Type 0 where
   -- 1, 2, 3 and 6
@@ -59,19 +62,20 @@ pub record FourteenExamples : Type 0 where
   pub ten : run 41237 (pos 300) 5000000 (quote 1 14990 ∷ bids 2 7 15000 ∷ []) ≡ opened ++ (noEntries ∷ oneEntry 7 6 2 1 15000 ∷ [])
   pub ten-market : run 41237 (pos 300) 5000000 (quote 1 14990 ∷ bidsMarket 2 7 ∷ []) ≡ opened ++ (noEntries ∷ oneEntry 7 6 2 1 14990 ∷ [])
   -- 11, a raise of one's own bid with nothing free
-  pub eleven-free : freeAfter (market 41237 (pos 300) 0 5000000 ++ (bids 2 7 15000 ∷ [])) ≡ 0
+  pub eleven-free : freeAfter 2 (market 41237 (pos 300) 0 5000000 ++ (bids 2 7 15000 ∷ [])) ≡ 0
   pub eleven : run 41237 (pos 300) 5000000 (bids 2 7 15000 ∷ bids 2 7 15005 ∷ []) ≡ opened ++ (oneEntry 7 4 2 1 15000 ∷ oneEntry 7 4 2 1 15005 ∷ [])
   -- 12, D 0 on day 5, in the morning and in the afternoon
   pub twelve : dueAfter (days 4 (market 41237 (pos 300) 0 5000000 ++ (quote 1 15000 ∷ bidsMarket 2 7 ∷ []))) ≡ 5
   pub twelve-afternoon : dueAfter (days 4 (market 41237 (pos 300) 0 5000000 ++ (quote 1 15000 ∷ morningClose ∷ bidsMarket 2 7 ∷ []))) ≡ 6
   -- 13, the money to settle, and one fen less
-  pub thirteen-free : freeAfter (market 41237 (pos 300) 0 63092610 ++ (bids 2 7 15000 ∷ quote 1 15000 ∷ lodges 1 7 ∷ [])) ≡ 58092610
+  pub thirteen-free : freeAfter 2 (market 41237 (pos 300) 0 63092610 ++ (bids 2 7 15000 ∷ quote 1 15000 ∷ lodges 1 7 ∷ [])) ≡ 58092610
   pub thirteen : run 41237 (pos 300) 63092610 (bids 2 7 15000 ∷ quote 1 15000 ∷ lodges 1 7 ∷ morningClose ∷ [])
       ≡ opened ++ (oneEntry 7 4 2 1 15000 ∷ oneEntry 7 6 2 1 15000 ∷ oneEntry 7 7 1 2 0 ∷ oneEntry 7 8 2 1 63092610 ∷ [])
-  pub thirteen-less-free : freeAfter (market 41237 (pos 300) 0 63092609 ++ (bids 2 7 15000 ∷ quote 1 15000 ∷ lodges 1 7 ∷ [])) ≡ 58092609
+  pub thirteen-less-free : freeAfter 2 (market 41237 (pos 300) 0 63092609 ++ (bids 2 7 15000 ∷ quote 1 15000 ∷ lodges 1 7 ∷ [])) ≡ 58092609
   pub thirteen-less : run 41237 (pos 300) 63092609 (bids 2 7 15000 ∷ quote 1 15000 ∷ lodges 1 7 ∷ morningClose ∷ [])
       ≡ opened ++ (oneEntry 7 4 2 1 15000 ∷ oneEntry 7 6 2 1 15000 ∷ oneEntry 7 7 1 2 0 ∷ oneEntry 7 12 2 1 5000000 ∷ [])
   -- 14, a penalty that the seller cannot pay in full
+  pub fourteen-free : freeAfter 1 (market 41237 (pos 300) 0 63092610 ++ (payIn 1 1200000 ∷ bids 2 7 15000 ∷ quote 1 15000 ∷ morningClose ∷ dayClose ∷ [])) ≡ 1200000
   pub fourteen : run 41237 (pos 300) 63092610 (payIn 1 1200000 ∷ bids 2 7 15000 ∷ quote 1 15000 ∷ morningClose ∷ dayClose ∷ morningClose ∷ [])
       ≡ opened ++ (noEntries ∷ oneEntry 7 4 2 1 15000 ∷ oneEntry 7 6 2 1 15000 ∷ oneEntry 7 13 1 2 0 ∷ noEntries ∷ oneEntry 7 15 1 2 1200000 ∷ [])
 
@@ -95,5 +99,6 @@ fourteen-examples =
       thirteen = refl;
       thirteen-less-free = refl;
       thirteen-less = refl;
+      fourteen-free = refl;
       fourteen = refl;
     }

@@ -34,6 +34,7 @@ pub record Past : Type 0 where
   pub full : ℕ  -- number, of the latest 8
   pub since : ℕ  -- the numbers of 9s and 11s since the latest 8
 
+-- the table: what it has of each lot, and of each account its pay-ins, its take-outs and what it sent and got by transfers
 pub record Table : Type 0 where
   pub lots : ℕ → Past
   pub payIns : ℕ → ℕ
@@ -46,6 +47,7 @@ abbrev pub noPast : Past
 noPast =
     record { last = 0; from = 0; kind = 0; account = 0; bidder = 0; registrant = 0; buyer = 0; full = 0; since = 0 }
 
+-- no entry, no money
 abbrev pub empty : Table
 empty = record { lots = λ k. noPast; payIns = λ x. 0; takeOuts = λ x. 0; sent = λ x. 0; got = λ x. 0 }
 
@@ -69,6 +71,7 @@ remember c e p =
 unfoldable pub transferred : Entry → ℕ
 transferred e = cond (oneOf (e .outcome) (9 ∷ 11 ∷ 12 ∷ 15 ∷ [])) (e .number) 0
 
+-- an entry goes in: its lot has it, and what it transfers is sent and got
 unfoldable pub enter : Call → Entry → Table → Table
 enter c e h =
     record {
@@ -79,6 +82,7 @@ enter c e h =
       got = λ x. h .got x + fenOf x (e .to) (transferred e);
     }
 
+-- entries one by one
 unfoldable pub enterAll : Call → List Entry → Table → Table
 enterAll c [] h = h
 enterAll c (e ∷ es) h = enterAll c es (enter c e h)
@@ -106,6 +110,7 @@ abbrev pub feed : Call → Reply → Table → Table
 feed c (refusedWith n) h = h
 feed c (acceptedWith es) h = enterAll c es (cash c h)
 
+-- the table after a list
 unfoldable pub history : List (Call × Reply) → Table
 history [] = empty
 history (a ∷ list) = feed (a .0) (a .1) (history list)
@@ -155,6 +160,7 @@ pub record OwnBid (c : Call) (e : Entry) (p : Past) : Type 0 where
   pub limit : p .kind ≡ 6
   pub by : p .account ≡ e .from
 
+-- an entry that is no strike, or strikes a buyer who made this call or whose bid stands
 pub data Fair (c : Call) (e : Entry) (p : Past) : Type 0 where
   noStrike : e .outcome ≢ 6 → Fair c e p
   ownCall : OwnCall c e → Fair c e p
@@ -165,6 +171,7 @@ unfoldable pub EachFair : Call → List Entry → Table → Type 0
 EachFair c [] h = Unit {0}
 EachFair c (e ∷ es) h = Fair c e (h .lots (e .lot)) × EachFair c es (enter c e h)
 
+-- the entries of an accepted call
 abbrev pub FairReply : Call → Reply → Table → Type 0
 FairReply c (refusedWith n) h = Unit {0}
 FairReply c (acceptedWith es) h = EachFair c es (cash c h)

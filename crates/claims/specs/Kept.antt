@@ -23,16 +23,23 @@ pub record EntryFits (e : Entry) : Type 0 where
   pub to : e .to ≤ accountCount
   pub number : e .number < 2 ^ 32
 
+-- the number of each entry fits its four bytes
+abbrev pub NumbersFit : List Entry → Type 0
+NumbersFit [] = Unit {0}
+NumbersFit (e ∷ es) = (e .number < 2 ^ 32) × NumbersFit es
+
 -- the entries are of lots from n on, each above the one before it (01 Answers 4)
 abbrev pub Ascending : ℕ → List Entry → Type 0
 Ascending n [] = Unit {0}
 Ascending n (e ∷ es) = (n ≤ e .lot) × EntryFits e × Ascending (suc (e .lot)) es
 
+-- what a call left keeps: the lengths of the tables, validity, the order of the entries and their room in an answer
 pub record Kept (d : Done) : Type 0 where
   pub sized : Sized (d .zone)
   pub valid : validZone (d .zone) ≡ true
   pub ascending : Ascending 1 (d .entries)
   pub count : length (d .entries) ≤ receiptCount
 
+-- every accepted call keeps it
 abbrev pub KeepsValid : Type 0
 KeepsValid = (z : Zone) (c : Call) → Sized z → validZone z ≡ true → numberOn z c ≡ 0 → Kept (effect z c)

@@ -1,4 +1,4 @@
--- Calls and replies in words: what the examples are written with.
+-- Calls and replies in words: what the examples are written with. Each name is the call of one kind, with its fields in 01's order.
 -- Assumes nothing.
 use mathlib.Core.List.{[], _∷_}
 use Prim.Native.Nat.{ℕ}
@@ -8,6 +8,7 @@ use Rattle.claims.specs.History.{Reply, acceptedWith}
 
 -- ── Calls ──────────────────────────────────────────────────────────────────────────────────────
 
+-- a call of any kind, field by field; the spare bytes are zero
 abbrev pub call : ℕ → ℕ → ℕ → ℕ → ℕ → ℕ → ℤ → ℕ → Call
 call kind account receipt contract days amount basis weight =
     record {

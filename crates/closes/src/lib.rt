@@ -84,7 +84,8 @@ fn close_penalty(v: View, n: u8, f: Record) -> AtLot
     )
 }
 
-// A lot with a due day, once that day has come.
+// A lot with a due day, once that day has come. Lots of other states are passed over before; the record of no receipt, which a close
+// names, comes here.
 pub fn close_at(v: View, n: u8, f: Record) -> AtLot
     requires { ⌜ Ready v f ⌝ }
     ensures { λ x. ⌜ x ≡ closeLot v n f ⌝ }

@@ -17,7 +17,8 @@ use Rattle.answers.specs.Buffers.{callLength, callIn, answerLength, refusedAnsw
 
 -- ── The number ─────────────────────────────────────────────────────────────────────────────────
 
--- n, behind the numbers of the buffers (01 Answers 12, 13): 1 for a short answer, 2 for an image of another length or that is not valid
+-- The numbers of the buffers come first (01 Answers 12, 13): 1 for a short answer, 2 for an image that is not valid or of another
+-- length. Where neither applies it is n, the number of the call.
 unfoldable pub behindBuffers : List ℕ → List ℕ → ℕ → ℕ
 behindBuffers image answer n = cond (ltb (length answer) answerLength) 1 (cond (not (validImage image)) 2 n)
 

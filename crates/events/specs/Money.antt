@@ -10,7 +10,8 @@ use Rattle.zone.specs.Held.{allMoney}
 use Rattle.rules.specs.Tables.{put}
 use Rattle.rules.specs.View.{freeAt, frozenAt}
 
--- Added to and taken from the free money of account a, held and freed of its frozen money. Nothing is taken that is not there: `Affords`, which the code asks.
+-- Added to and taken from the free money of account a, held and freed of its frozen money. Nothing is taken that is not there: the code asks
+-- for `Affords`, which its callers have from `funded` (rules, Laws/Fit).
 unfoldable pub changed : ℕ → Fen → Fen → Fen → Fen → List Account → List Account
 changed a added taken held freed l =
     put l a (record {

@@ -14,7 +14,8 @@ use rules::OUTCOME_PENALTY;
 use units::Fen;
 use zone::Receipt;
 
-// The money that passes by an entry. Of the other outcomes the number is a price, or no money of the entry's.
+// The money that passes by an entry: in these four outcomes its number is fen. In the others it is a price, an amount that does not
+// pass, or 0.
 fn money_of(e: Entry) -> Fen
     ensures { λ r. ⌜ r ≡ moneyOf e ⌝ }
 {

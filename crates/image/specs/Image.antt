@@ -15,7 +15,7 @@ use Rattle.zone.specs.Valid.{all, askOk, recordValid, booksOk}
 use Rattle.image.specs.Table.{tableBytes}
 use Rattle.image.specs.Layout.{imageLength, headerOk, dayIn, afternoonIn, totalIn, asksIn, accountsIn, recordsIn, receiptsIn, headerBytes, accountBytes, askBytes, receiptBytes}
 
--- Bytes are a valid image (01 Image 15) by their number, the header, and what `booksOk` says of the day, the asks, the accounts, the
+-- Bytes are a valid image (01 Image 15) by their length, the header, and what `booksOk` says of the day, the asks, the accounts, the
 -- records and the total that stand in them.
 unfoldable pub validImage : List ℕ → Bool
 validImage s =

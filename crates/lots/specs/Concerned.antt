@@ -1,4 +1,4 @@
--- The lots that the rule of a call through all lots can do anything at: what the code tests before it asks the rule.
+-- At which lots the rule of a quote or a close can have an event. The code tests this before it reads the record and asks the rule.
 -- Assumes nothing.
 use mathlib.Core.Bool.{Bool, _&&_}
 use mathlib.Core.List.{[], _∷_}

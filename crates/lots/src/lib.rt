@@ -45,7 +45,7 @@ fn free_of(image: &[u8], a: u8) -> Fen
     v.free
 }
 
-// The ask of a lot's contract; a receipt without a listing has none.
+// The ask of a contract; a receipt without a listing has contract 0, and that has none.
 fn ask_of(image: &[u8], n: u8) -> YuanPerTonne
     requires { ⌜ (length (now image) ≡ imageLength) × (n ≤ contractCount) ⌝ }
     ensures { λ r. ⌜ r ≡ askAt (decode (now (image .entry)) .asks) n ⌝ }

@@ -73,7 +73,7 @@ fn wrong_phase(v: View, c: Call) -> bool
     }
 }
 
-// Of each kind that names a state, that the receipt is in it.
+// The kind names a state, and the receipt is not in it.
 fn wrong_state(c: Call, f: Record) -> bool
     ensures { λ x. ⌜ x ≡ wrongState c f ⌝ }
 {
@@ -96,7 +96,7 @@ fn wrong_state(c: Call, f: Record) -> bool
     !named
 }
 
-// Of each kind that names a party, that the caller is the one.
+// The kind names a party, and the caller is another.
 fn wrong_party(c: Call, f: Record) -> bool
     ensures { λ x. ⌜ x ≡ wrongParty c f ⌝ }
 {

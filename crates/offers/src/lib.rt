@@ -154,7 +154,8 @@ pub fn withdraw_bid(n: u8, f: Record) -> AtLot
     )
 }
 
-// A standing bid of the quoted contract that meets the new ask is struck at its own price.
+// A standing bid of the quoted contract that meets the new ask is struck at its own price. Lots of other states and contracts are passed
+// over before; the record of no receipt, which a quote names, comes here.
 pub fn quote_at(v: View, c: Call, n: u8, f: Record) -> AtLot
     requires { ⌜ Ready v f ⌝ }
     ensures { λ x. ⌜ x ≡ quoteLot v c n f ⌝ }

@@ -54,7 +54,7 @@ fn record_start(image: &mut [u8], at: usize, r: Record)
     wire::put_i32(image, at + BASIS_PLACE, r.basis.0);
 }
 
-// Four bytes of an amount; more than four no valid record has.
+// An amount in four bytes. In a valid record it is below 2^32, so that nothing is cut off.
 fn low_half(n: Fen) -> u32
     ensures { λ r. ⌜ r ≡ n .0 % 4294967296 ⌝ }
 {

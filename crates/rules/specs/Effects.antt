@@ -1,4 +1,4 @@
--- What an accepted call does (01 Calls 4 to 26): an opening, a rule at the lots that the call names, an ending. The articles are those of
+-- What an accepted call does (01 Calls 4 to 26): an opening, a rule at its lots, an ending. The articles are those of
 -- the guideline, source document 002.
 -- Assumes nothing.
 use mathlib.Core.Bool.{Bool, true, false, not, cond, _&&_}
@@ -67,77 +67,77 @@ meetsAsk v price = not (eqb (v .ask .0) 0) && leb (v .ask .0) (price .0)
 
 -- ── The rule of each kind, at lot n of record f ────────────────────────────────────────────────
 
--- 3 register: the caller owns a receipt of this weight, with no lot
+-- 3 register (01 Calls 5): the caller owns a receipt of this weight, with no lot
 unfoldable pub register : Call → ℕ → AtLot
 register c n =
     Event (entryOf n 1 (c .account) 0 0) (record { owner = c .account; weight = record { 0 = c .weight }; lot = Idle })
 
--- 4 list: the caller offers it at a contract, with its days and basis (article 6)
+-- 4 list (01 Calls 6): the caller offers it at a contract, with its days and basis (article 6)
 unfoldable pub listFor : Call → ℕ → Record → AtLot
 listFor c n f =
     Event (entryOf n 2 (c .account) 0 0)
     (withLot f (Listed (record { seller = c .account; contract = c .contract; days = c .days; basis = record { 0 = c .basis } })))
 
--- 5 withdraw a listing; a bid on it ends with it (article 8)
+-- 5 withdraw a listing (01 Calls 7); a bid on it ends with it (article 8)
 unfoldable pub withdrawListing : ℕ → Record → AtLot
 withdrawListing n f = eventOf n f Idle 3 0
 
--- 6 limit bid: struck at the price bid where the ask is not above it, else it stands (articles 9 and 10)
+-- 6 limit bid (01 Calls 8, 9): struck at the price bid where the ask is not above it, else it stands (articles 9 and 10)
 unfoldable pub limitBid : View → Call → ℕ → Record → AtLot
 limitBid v c n f =
     let b : Bid = record { buyer = c .account; price = record { 0 = c .amount } } in
     cond (meetsAsk v (b .price)) (bidStruck v n f b) (bidStands n f b)
 
--- 7 market bid: struck at the ask (article 11)
+-- 7 market bid (01 Calls 10): struck at the ask (article 11)
 unfoldable pub marketBid : View → Call → ℕ → Record → AtLot
 marketBid v c n f = bidStruck v n f (record { buyer = c .account; price = v .ask })
 
--- 8 withdraw a bid: the listing stays (article 8)
+-- 8 withdraw a bid (01 Calls 11): the listing stays (article 8)
 unfoldable pub withdrawBid : ℕ → Record → AtLot
 withdrawBid n f = eventOf n f (Listed (listingOf f)) 5 0
 
--- 9 quote: a standing bid of that contract that meets the ask is struck at its own price (article 10)
+-- 9 quote (01 Calls 12): a standing bid of that contract that meets the ask is struck at its own price (article 10)
 unfoldable pub quoteLot : View → Call → ℕ → Record → AtLot
 quoteLot v c n f =
     cond (eqb (f .state) 2 && eqb (f .contract) (c .contract) && meetsAsk v (f .price)) (bidStruck v n f (bidOf f)) NoEvent
 
--- 10 lodge (article 13)
+-- 10 lodge (01 Calls 13; article 13)
 unfoldable pub lodge : ℕ → Record → AtLot
 lodge n f = eventOf n f (Lodged (tradeOf f)) 7 0
 
--- the buyer has the money of the trade: free money and the deposit reach full (article 14)
+-- the buyer has the money of the trade (01 Calls 15): free money and the deposit reach full (article 14)
 abbrev pub hasMoney : View → Record → Bool
 hasMoney v f = leb (full f .0) (v .free .buyer .0 + deposit .0)
 
--- 11 morning close, of a lodged lot: with the money it is settled and the receipt is the buyer's, without it the deposit passes to the
+-- 11 morning close, of a lodged lot (01 Calls 16, 17): with the money it is settled and the receipt is the buyer's, without it the deposit passes to the
 -- seller (articles 15 and 20)
 abbrev pub closeLodged : View → ℕ → Record → AtLot
 closeLodged v n f =
     let bought : Receipt = record { owner = f .buyer; weight = f .weight; lot = Settled (tradeOf f) } in
     cond (hasMoney v f) (Event (entryOf n 8 (f .seller) (f .buyer) (full f .0)) bought) (eventOf n f Idle 12 (deposit .0))
 
--- of a struck lot that was not lodged: with the money the seller owes the penalty from tomorrow on, without it both have defaulted
+-- of a struck lot that was not lodged (01 Calls 18, 19): with the money the seller owes the penalty from tomorrow on, without it both have defaulted
 -- (article 20)
 abbrev pub closeStruck : View → ℕ → Record → AtLot
 closeStruck v n f =
     cond (hasMoney v f) (eventOf n f (PenaltyDue (f .seller) (f .buyer) (v .day + 1)) 13 0) (eventOf n f Idle 14 0)
 
--- of a lot whose penalty is due: what the seller can pay of it passes (article 21)
+-- of a lot whose penalty is due (01 Calls 20): what the seller can pay of it passes (articles 20 and 21)
 abbrev pub closePenalty : View → ℕ → Record → AtLot
 closePenalty v n f = eventOf n f Idle 15 (penaltyPassed (v .free .seller) .0)
 
--- each of these on its due day or later
+-- each of these on its due day or later (01 Calls 14)
 unfoldable pub closeLot : View → ℕ → Record → AtLot
 closeLot v n f =
     cond (among (f .state) (3 ∷ 4 ∷ 7 ∷ []) && leb (f .due) (v .day))
     (row (f .state) NoEvent ((4 ∷ [], closeLodged v n f) ∷ (3 ∷ [], closeStruck v n f) ∷ (7 ∷ [], closePenalty v n f) ∷ []))
     NoEvent
 
--- 12 first payment; the number is the fen paid (article 16)
+-- 12 first payment (01 Calls 22); the number is the fen paid (article 16)
 unfoldable pub payFirst : ℕ → Record → AtLot
 payFirst n f = eventOf n f (FirstPaid (tradeOf f) noInvoices) 9 (firstPayment (full f) .0)
 
--- 13 invoice; the number is the invoice (article 17)
+-- 13 invoice (01 Calls 23); the number is the invoice (article 17)
 unfoldable pub sendInvoice : Call → ℕ → Record → AtLot
 sendInvoice c n f =
     eventOf n f (FirstPaid (tradeOf f) (record { pending = fen (c .amount); confirmed = f .confirmed; paid = f .paid })) 10 (c .amount)
@@ -149,23 +149,25 @@ confirmedLot f all part =
     cond (eqb confirmed (all .0)) Idle
     (FirstPaid (tradeOf f) (record { pending = fen 0; confirmed = fen confirmed; paid = fen (f .paid .0 + part .0) }))
 
--- 14 confirm; the number is the fen paid (article 17)
+-- 14 confirm (01 Calls 24); the number is the fen paid (article 17)
 unfoldable pub confirm : ℕ → Record → AtLot
 confirm n f =
     let part : Fen = partPayment (full f) (f .confirmed) (f .paid) (f .pending) in
     eventOf n f (confirmedLot f (full f) part) 11 (part .0)
 
--- 15 day close: a listing ends, with or without a bid (article 12)
+-- 15 day close (01 Calls 25): a listing ends, with or without a bid (article 12)
 unfoldable pub dayCloseLot : ℕ → Record → AtLot
 dayCloseLot n f = cond (among (f .state) (1 ∷ 2 ∷ [])) (eventOf n f Idle 3 0) NoEvent
 
--- by kind; kinds 1 and 2 have no entry
+-- what a kind does at lot n of record f, in view v
 abbrev pub Rule : Type 0
 Rule = View → Call → ℕ → Record → AtLot
 
+-- of pay-ins and take-outs
 unfoldable pub noRule : Rule
 noRule v c n f = NoEvent
 
+-- by kind; kinds 1 and 2 have no entry (01 Answers 9)
 abbrev pub ruleTable : List (List ℕ × Rule)
 ruleTable =
     (3 ∷ [], λ v c n f. register c n)
@@ -183,6 +185,7 @@ ruleTable =
     ∷ (15 ∷ [], λ v c n f. dayCloseLot n f)
     ∷ []
 
+-- the rule of a kind
 unfoldable pub ruleOf : ℕ → Rule
 ruleOf kind = row kind noRule ruleTable
 
@@ -192,10 +195,11 @@ ruleAt c z n = ruleOf (c .kind) (viewOf z (c .account) (recordAt z n)) c n (reco
 
 -- ── Opening and ending ─────────────────────────────────────────────────────────────────────────
 
+-- other accounts and another total
 abbrev pub withMoney : Zone → List Account → ℕ → Zone
 withMoney z accounts total = withTotal (withAccounts z accounts) (fen total)
 
--- 1 pays in, 2 takes out, 9 sets the ask. Nothing is taken that is not there: number 11 (`money-out`, Laws/Ready) and `at-most`
+-- 1 pays in, 2 takes out, 9 sets the ask (01 Calls 4, 12). Nothing is taken that is not there: number 11 (`money-out`, Laws/Ready) and `at-most`
 -- (Laws/Moves).
 unfoldable pub opening : Call → Zone → Zone
 opening c z =
@@ -220,7 +224,7 @@ firstLot c = row (c .kind) (c .receipt) ((sweepKinds, 1) ∷ [])
 unfoldable pub lotCount : Call → ℕ
 lotCount c = row (c .kind) 1 ((1 ∷ 2 ∷ [], 0) ∷ (sweepKinds, receiptCount) ∷ [])
 
--- 11 goes on to the afternoon; 15 clears the asks and goes on to the morning of the next day
+-- 11 goes on to the afternoon, 15 clears the asks and goes on to the morning of the next day (01 Calls 21, 25)
 unfoldable pub ending : Call → Zone → Zone
 ending c z =
     let asIs : Zone → Zone = λ z. z in

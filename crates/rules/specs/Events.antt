@@ -21,15 +21,19 @@ use Rattle.rules.specs.View.{freeAt, frozenAt, recordAt}
 -- n fen of account a. Nothing is taken that is not there: of an event `funded` (Laws/Fit) says that each move finds its money, and of a
 -- take-out number 11 (`money-out`, Laws/Ready).
 
+-- more free money
 unfoldable pub credit : ℕ → Fen → List Account → List Account
 credit a n l = put l a (record { free = fen (freeAt l a .0 + n .0); frozen = frozenAt l a })
 
+-- less free money
 unfoldable pub debit : ℕ → Fen → List Account → List Account
 debit a n l = put l a (record { free = fen (freeAt l a .0 - n .0); frozen = frozenAt l a })
 
+-- frozen money becomes free
 unfoldable pub release : ℕ → Fen → List Account → List Account
 release a n l = put l a (record { free = fen (freeAt l a .0 + n .0); frozen = fen (frozenAt l a .0 - n .0) })
 
+-- free money is frozen
 unfoldable pub freeze : ℕ → Fen → List Account → List Account
 freeze a n l = put l a (record { free = fen (freeAt l a .0 - n .0); frozen = fen (frozenAt l a .0 + n .0) })
 
@@ -70,6 +74,7 @@ pub record Done : Type 0 where
   pub zone : Zone
   pub entries : List Entry
 
+-- after what a rule does at one lot
 abbrev pub afterLot : Zone → AtLot → Done
 afterLot z NoEvent = record { zone = z; entries = [] }
 afterLot z (Event e r) = record { zone = posted z e r; entries = e ∷ [] }

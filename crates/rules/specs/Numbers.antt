@@ -27,11 +27,12 @@ values c =
     pos (c .account) ∷ pos (c .receipt) ∷ pos (c .contract) ∷ pos (c .days) ∷ pos (c .amount) ∷ c .basis ∷ pos (c .weight)
     ∷ pos (c .spare) ∷ []
 
+-- a test of natural numbers, which no number below 0 passes
 abbrev pub natural : (ℕ → Bool) → ℤ → Bool
 natural f (pos n) = f n
 natural f (negsuc n) = false
 
--- the fields, each with the range of its numbers (01 Image 17)
+-- The fields, each with the range of its numbers (01 Image 17). One field is an amount, a price, or a price or 0, by its kind.
 abbrev pub account : Field
 account = record { place = 0; range = natural isAccount }
 
@@ -72,6 +73,7 @@ brackets kind =
     ∷ (13 ∷ [], account ∷ receipt ∷ amount ∷ [])
     ∷ [])
 
+-- a field of that place is among them
 abbrev pub isUsed : ℕ → List Field → Bool
 isUsed place [] = false
 isUsed place (f ∷ fs) = eqb place (f .place) || isUsed place fs
@@ -81,11 +83,13 @@ abbrev pub unusedZero : List Field → ℕ → List ℤ → Bool
 unusedZero fs place [] = true
 unusedZero fs place (v ∷ vs) = (isUsed place fs || isZero v) && unusedZero fs (suc place) vs
 
+-- the value at a place
 abbrev pub valueAt : ℕ → List ℤ → ℤ
 valueAt place [] = pos 0
 valueAt zero (v ∷ vs) = v
 valueAt (suc place) (v ∷ vs) = valueAt place vs
 
+-- each of the fields is in its range
 abbrev pub inRange : List Field → List ℤ → Bool
 inRange [] vs = true
 inRange (f ∷ fs) vs = f .range (valueAt (f .place) vs) && inRange fs vs
@@ -93,15 +97,15 @@ inRange (f ∷ fs) vs = f .range (valueAt (f .place) vs) && inRange fs vs
 -- ── One test for each number ───────────────────────────────────────────────────────────────────
 -- f is the record of the receipt that the call names, v what the rules read beside it
 
--- 3: a kind that is none, or a field that the kind does not use and that is not zero
+-- 3 (01 Answers 14): a kind that is none, or a field that the kind does not use and that is not zero
 unfoldable pub illFormed : Call → Bool
 illFormed c = not (within 1 15 (c .kind) && unusedZero (brackets (c .kind)) 0 (values c))
 
--- 4: a field that the kind uses is not in its range
+-- 4 (01 Answers 15): a field that the kind uses is not in its range
 unfoldable pub outOfRange : Call → Bool
 outOfRange c = not (inRange (brackets (c .kind)) (values c))
 
--- 5: the morning close belongs to a morning, the day close to an afternoon, and the last day has none
+-- 5 (01 Answers 16): the morning close belongs to a morning, the day close to an afternoon, and the last day has none
 unfoldable pub wrongPhase : View → Call → Bool
 wrongPhase v c =
     row (c .kind) false
@@ -126,7 +130,7 @@ inStateNamed c f =
     ∷ (14 ∷ [], isIn (6 ∷ []) && pending)
     ∷ [])
 
--- 6: the receipt is not in the state that the kind names; an invoice waits already, or none waits for its confirmation
+-- 6 (01 Answers 17): the receipt is not in the state that the kind names; an invoice waits already, or none waits for its confirmation
 unfoldable pub wrongState : Call → Record → Bool
 wrongState c f = not (inStateNamed c f)
 
@@ -141,19 +145,19 @@ isPartyNamed c f =
     ∷ (6 ∷ 7 ∷ [], not (by (f .seller)))
     ∷ [])
 
--- 7: the caller is not the party that the kind names, or bids on its own listing
+-- 7 (01 Answers 18): the caller is not the party that the kind names, or bids on its own listing
 unfoldable pub wrongParty : Call → Record → Bool
 wrongParty c f = not (isPartyNamed c f)
 
--- 8: a limit bid must be above the standing one; with none the price of the record is 0
+-- 8 (01 Answers 19): a limit bid must be above the standing one; with none the price of the record is 0
 unfoldable pub notAbove : Call → Record → Bool
 notAbove c f = eqb (c .kind) 6 && not (ltb (f .price .0) (c .amount))
 
--- 9: a market bid needs an ask
+-- 9 (01 Answers 20): a market bid needs an ask
 unfoldable pub lacksAsk : View → Call → Bool
 lacksAsk v c = eqb (c .kind) 7 && eqb (v .ask .0) 0
 
--- 10: price and basis, or ask and basis, leave less than 1 yuan per tonne to pay
+-- 10 (01 Answers 21): price and basis, or ask and basis, leave less than 1 yuan per tonne to pay
 unfoldable pub notPayable : View → Call → Record → Bool
 notPayable v c f =
     row (c .kind) false
@@ -161,7 +165,7 @@ notPayable v c f =
     ∷ (7 ∷ [], not (payable (v .ask) (f .basis)))
     ∷ [])
 
--- 11: free money is short of what is taken out, or of the deposit of a bid. The bid that stood is over first, so what the lot holds from
+-- 11 (01 Answers 22): free money is short of what is taken out, or of the deposit of a bid. The bid that stood is over first, so what the lot holds from
 -- the caller counts as free.
 unfoldable pub lacksMoney : View → Call → Record → Bool
 lacksMoney v c f =
@@ -170,11 +174,11 @@ lacksMoney v c f =
     ∷ (6 ∷ 7 ∷ [], ltb (v .free .caller .0 + heldFrom (c .account) f) (deposit .0))
     ∷ [])
 
--- 12: all money would pass its limit
+-- 12 (01 Answers 23): all money would pass its limit
 unfoldable pub aboveLimit : View → Call → Bool
 aboveLimit v c = eqb (c .kind) 1 && ltb moneyLimit (v .total .0 + c .amount)
 
--- 13: with this invoice more would be invoiced than full
+-- 13 (01 Answers 24): with this invoice more would be invoiced than full
 unfoldable pub aboveInvoice : Call → Record → Bool
 aboveInvoice c f = eqb (c .kind) 13 && ltb (full f .0) (f .confirmed .0 + c .amount)
 

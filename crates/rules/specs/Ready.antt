@@ -18,7 +18,7 @@ use Rattle.rules.specs.declared.View.{View}
 use Rattle.rules.specs.Events.{moneyOf}
 use Rattle.rules.specs.View.{freeAt, frozenAt}
 
--- the lot's record is valid, and the view is of a valid zone
+-- the lot's record is valid, and the view's day and money are within their limits, as in a valid zone
 pub record Ready (v : View) (f : Record) : Type 0 where
   pub valid : recordValid f ≡ true
   pub day : v .day ≤ lastDay

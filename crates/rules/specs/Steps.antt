@@ -21,7 +21,7 @@ stepAt v c f = cond (eqb (firstNumber v c f) 0) (Accepted (ruleOf (c .kind) v c 
 abbrev pub stepOn : Zone → Call → Step
 stepOn z c = stepAt (viewOf z (c .account) (recordAt z (c .receipt))) c (recordAt z (c .receipt))
 
--- 01's number for each case of a step
+-- 01's number for each case of a step (01 Forms 15)
 abbrev pub stepNumber : Step → ℕ
 stepNumber (Refused n) = n
 stepNumber (Accepted a) = 0

@@ -11,7 +11,7 @@ abbrev pub among : ℕ → List ℕ → Bool
 among n [] = false
 among n (k ∷ ks) = cond (eqb n k) true (among n ks)
 
--- the entry of the first row that names n, else d
+-- what the first row that names n has, else d
 abbrev pub row : {A : Type 0} → ℕ → A → List (List ℕ × A) → A
 row n d [] = d
 row n d (r ∷ rs) = cond (among n (r .0)) (r .1) (row n d rs)
@@ -21,12 +21,13 @@ abbrev pub firstThatApplies : List (ℕ × Bool) → ℕ
 firstThatApplies [] = 0
 firstThatApplies (r ∷ rs) = cond (r .1) (r .0) (firstThatApplies rs)
 
--- Accounts, receipts and contracts count from 1 (01 Image 6): entry a of a table, and d for 0, which is nobody.
+-- Accounts, receipts and contracts count from 1 (01 Image 6): element a of a table, and d for 0, which is nobody.
 module _ {A : Type 0} where
   unfoldable pub nth : A → List A → ℕ → A
   nth d l zero = d
   nth d l (suc k) = getD l k d
 
+  -- the table with another element a; of nobody nothing is changed
   unfoldable pub put : List A → ℕ → A → List A
   put l zero a = l
   put l (suc k) a = set l k a

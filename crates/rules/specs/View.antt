@@ -13,17 +13,19 @@ use Rattle.zone.specs.Valid.{emptyAccount, noReceipt, noAsk}
 use Rattle.rules.specs.declared.View.{View}
 use Rattle.rules.specs.Tables.{nth}
 
--- free and frozen money of account a; nobody has none
+-- free money of account a; nobody has none
 unfoldable pub freeAt : List Account → ℕ → Fen
 freeAt l a = nth emptyAccount l a .free
 
+-- and its frozen money
 unfoldable pub frozenAt : List Account → ℕ → Fen
 frozenAt l a = nth emptyAccount l a .frozen
 
--- the receipt of a number, and its record; 0 names none
+-- the receipt of a number; 0 names none
 unfoldable pub receiptAt : List Receipt → ℕ → Receipt
 receiptAt l k = nth noReceipt l k
 
+-- the record of a receipt's number
 abbrev pub recordAt : Zone → ℕ → Record
 recordAt z n = recordOf (receiptAt (z .receipts) n)
 

@@ -17,6 +17,7 @@ isZero z = leZ (pos 0) z && leZ z (pos 0)
 
 -- ── Counts, and the numbers that count from 1 ──────────────────────────────────────────────────
 
+-- how many accounts, receipts and contracts there are (01 Image 1)
 abbrev pub accountCount : ℕ
 accountCount = 96
 
@@ -30,9 +31,11 @@ contractCount = 8
 abbrev pub isAccount : ℕ → Bool
 isAccount n = within 1 accountCount n
 
+-- a receipt, and its lot
 abbrev pub isReceipt : ℕ → Bool
 isReceipt n = within 1 receiptCount n
 
+-- a contract
 abbrev pub isContract : ℕ → Bool
 isContract n = within 1 contractCount n
 
@@ -42,6 +45,7 @@ isContract n = within 1 contractCount n
 abbrev pub isDays : ℕ → Bool
 isDays n = leb n 3
 
+-- the highest price
 abbrev pub mostPrice : ℕ
 mostPrice = 200000
 
@@ -57,10 +61,11 @@ isAsk n = eqb n 0 || isPrice n
 abbrev pub mostBasis : ℕ
 mostBasis = 50000
 
--- yuan per tonne, up or down (`negsuc n` is -(n + 1))
+-- yuan per tonne, up or down; `negsuc n` is -(n + 1), and the most is not 0
 abbrev pub isBasis : ℤ → Bool
 isBasis b = leZ (negsuc (mostBasis - 1)) b && leZ b (pos mostBasis)
 
+-- the heaviest receipt
 abbrev pub mostWeight : ℕ
 mostWeight = 60000
 
@@ -78,9 +83,10 @@ isAmount n = within 1 (10 ^ 12) n
 abbrev pub moneyLimit : ℕ
 moneyLimit = 10 ^ 15
 
--- the last day of the calendar, and the last day that a lot can be due (01 Image 1, 15)
+-- the last day of the calendar (01 Image 1)
 abbrev pub lastDay : ℕ
 lastDay = 30000
 
+-- the last day that a lot can be due (01 Image 15)
 abbrev pub lastDue : ℕ
 lastDue = 30003

@@ -26,7 +26,7 @@ fn is_blank(r: Record) -> bool
     ensures { λ x. ⌜ x ≡ blank r ⌝ }
 {
     (r.owner == 0)
-        & (r.state == 0)
+        & (r.state == STATE_IDLE)
         & (r.seller == 0)
         & (r.buyer == 0)
         & (r.contract == 0)

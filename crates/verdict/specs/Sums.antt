@@ -24,7 +24,7 @@ unfoldable pub heldValid : ℕ → List Record → ℕ
 heldValid x [] = 0
 heldValid x (r ∷ rs) = cond (recordValid r) (heldFrom x r) 0 + heldValid x rs
 
--- from each account, nobody's place first
+-- the sums of all places, of which the first is nobody's
 unfoldable pub heldSums : List Record → List Fen
 heldSums rs = table (accountCount + 1) (λ x. fen (heldValid x rs))
 

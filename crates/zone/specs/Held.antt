@@ -11,10 +11,11 @@ use Rattle.zone.specs.declared.Account.{Account}
 use Rattle.zone.specs.declared.Hold.{Hold}
 use Rattle.zone.specs.declared.Record.{Record}
 
--- full payment of the lot's trade, and the rest after the first payment
+-- full payment of the lot's trade (01 Money 2)
 unfoldable pub full : Record → Fen
 full r = fullPayment (r .price) (r .basis) (r .weight)
 
+-- the rest after its first payment (01 Money 4)
 abbrev pub rest : Record → Fen
 rest r = restPayment (full r)
 

@@ -13,13 +13,15 @@ use Rattle.zone.specs.declared.Receipt.{Receipt}
 use Rattle.zone.specs.declared.Record.{Record}
 use Rattle.zone.specs.declared.Trade.{Trade}
 
--- the fields of a group that a state does not fill
+-- a seller alone; the fields of the group that state 7 does not fill are zero
 abbrev pub noListing : ℕ → Listing
 noListing seller = record { seller = seller; contract = 0; days = 0; basis = record { 0 = pos 0 } }
 
+-- a buyer without a price
 abbrev pub noBid : ℕ → Bid
 noBid buyer = record { buyer = buyer; price = record { 0 = 0 } }
 
+-- nothing invoiced, nothing paid
 abbrev pub noInvoices : Invoices
 noInvoices = record { pending = fen 0; confirmed = fen 0; paid = fen 0 }
 
@@ -57,16 +59,19 @@ recordAs o w (PenaltyDue s b d) = flatRecord o w 7 (noListing s) (noBid b) d noI
 unfoldable pub recordOf : Receipt → Record
 recordOf r = recordAs (r .owner) (r .weight) (r .lot)
 
--- the groups of a record's fields
+-- the listing in a record's fields
 abbrev pub listingOf : Record → Listing
 listingOf r = record { seller = r .seller; contract = r .contract; days = r .days; basis = r .basis }
 
+-- its bid, and its invoices below
 abbrev pub bidOf : Record → Bid
 bidOf r = record { buyer = r .buyer; price = r .price }
 
+-- the trade: listing, bid and due day
 abbrev pub tradeOf : Record → Trade
 tradeOf r = record { listing = listingOf r; bid = bidOf r; due = r .due }
 
+-- what is pending, confirmed and paid
 abbrev pub invoicesOf : Record → Invoices
 invoicesOf r = record { pending = r .pending; confirmed = r .confirmed; paid = r .paid }
 

@@ -71,6 +71,7 @@ invoicesWithin r =
 unfoldable pub noInvoicesOk : Record → Bool
 noInvoicesOk r = eqb (r .pending .0) 0 && eqb (r .confirmed .0) 0 && eqb (r .paid .0) 0
 
+-- by state
 unfoldable pub invoicesOk : Record → Bool
 invoicesOk r = cond (eqb (r .state) 6) (invoicesWithin r) (noInvoicesOk r)
 
@@ -78,11 +79,13 @@ invoicesOk r = cond (eqb (r .state) 6) (invoicesWithin r) (noInvoicesOk r)
 unfoldable pub fieldsOk : Record → Bool
 fieldsOk r = leb (r .state) 7 && isAccount (r .owner) && isWeight (r .weight .0) && listingOk r && bidOk r && dueOk r && ownerOk r
 
+-- nobody's receipt is blank, a registered one has what its state asks (01 Image 8, 15)
 unfoldable pub recordValid : Record → Bool
 recordValid r = cond (eqb (r .owner) 0) (blank r) (fieldsOk r && invoicesOk r)
 
 -- ── The whole (01 Image 15) ────────────────────────────────────────────────────────────────────
 
+-- each element passes the test
 unfoldable pub all : {A : Type 0} → (A → Bool) → List A → Bool
 all f [] = true
 all f (x ∷ xs) = f x && all f xs
@@ -103,6 +106,7 @@ module _ {A : Type 0} (rec : A → Record) where
       within 1 lastDay day && all askOk asks && all (λ r. recordValid (rec r)) rs && frozenOk 1 accounts rs
       && eqb (total .0) (allMoney accounts) && leb (total .0) moneyLimit
 
+-- a zone whose values keep the books
 unfoldable pub validZone : Zone → Bool
 validZone z = booksOk recordOf (z .day) (z .asks) (z .accounts) (z .receipts) (z .total)
 
@@ -114,12 +118,15 @@ pub record Sized (z : Zone) : Type 0 where
 
 -- ── A fresh zone (01 Image 16) ─────────────────────────────────────────────────────────────────
 
+-- no money
 abbrev pub emptyAccount : Account
 emptyAccount = record { free = fen 0; frozen = fen 0 }
 
+-- what stands in the place of a receipt that nobody has registered
 abbrev pub noReceipt : Receipt
 noReceipt = record { owner = 0; weight = record { 0 = 0 }; lot = Idle }
 
+-- none
 abbrev pub noAsk : YuanPerTonne
 noAsk = record { 0 = 0 }
 

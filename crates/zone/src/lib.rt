@@ -261,7 +261,7 @@ pub fn trade_of(r: Record) -> Trade
     }
 }
 
-pub fn invoices_of(r: Record) -> Invoices
+fn invoices_of(r: Record) -> Invoices
     ensures { λ x. ⌜ x ≡ invoicesOf r ⌝ }
 {
     let pending = r.pending;
@@ -274,6 +274,7 @@ pub fn invoices_of(r: Record) -> Invoices
     }
 }
 
+// Every state has its lot, also those that no rule asks for by its lot today (5 and 6).
 pub fn receipt_of(r: Record) -> Receipt
     ensures { λ x. ⌜ x ≡ receiptOf r ⌝ }
 {

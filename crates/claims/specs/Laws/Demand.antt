@@ -21,24 +21,19 @@ use Rattle.image.specs.Laws.RoundTrip.{decode-encode, valid-encode, valid-decod
 use Rattle.answers.specs.Buffers.{callLength, answerLength, callIn, entriesIn, acceptedAnswer}
 use Rattle.answers.specs.Laws.ReadBack.{Numbered, entries-back}
 use Rattle.crz.specs.Returned.{behindBuffers, callNumber, recordNumber, Left, refused, accepted}
-use Rattle.claims.specs.Demand.{Exchange, MadeFrom, noCalls, next, fed, KeepsImage, ImageKept, StaysValid, Demand3}
+use Rattle.claims.specs.Demand.{Exchange, MadeFrom, noCalls, next, fed, KeepsImage, ImageKept, StaysValid, FreshIsValid, Demand3}
 use Rattle.claims.specs.History.{acceptedWith}
-use Rattle.claims.specs.Kept.{Ascending, Kept}
+use Rattle.claims.specs.Kept.{NumbersFit, Ascending, Kept}
 use Rattle.claims.specs.Laws.Values.{After, after-refused, after-accepted, after-fresh, holds}
 use Rattle.claims.specs.Laws.Kept.{keeps-valid}
 
 -- ── The entries of an answer ───────────────────────────────────────────────────────────────────
 
--- each number fits four bytes
-abbrev Small : List Entry → Type 0
-Small [] = Unit {0}
-Small (e ∷ es) = (e .number < 2 ^ 32) × Small es
-
-small-ascending : (n : ℕ) (es : List Entry) → Ascending n es → Small es
+small-ascending : (n : ℕ) (es : List Entry) → Ascending n es → NumbersFit es
 small-ascending n [] a = tt
 small-ascending n (e ∷ es) a = (a .1 .number, small-ascending (suc (e .lot)) es (a .2))
 
-small-permuted : {es fs : List Entry} → Permuted es fs → Small es → Small fs
+small-permuted : {es fs : List Entry} → Permuted es fs → NumbersFit es → NumbersFit fs
 small-permuted none s = tt
 small-permuted (keep p) s = (s .0, small-permuted p (s .1))
 small-permuted swap s = (s .1 .0, (s .0, s .1 .1))
@@ -50,13 +45,13 @@ length-permuted (keep p) = ap suc (length-permuted p)
 length-permuted swap = refl
 length-permuted (via p q) = length-permuted q ∙ length-permuted p
 
-numbered : (es : List Entry) → Small es → Numbered es
+pub numbered : (es : List Entry) → NumbersFit es → Numbered es
 numbered [] s k h = absurd (not-suc-le-zero h)
 numbered (e ∷ es) s zero h = s .0
 numbered (e ∷ es) s (suc k) h = numbered es (s .1) k (le-of-suc-le-suc h)
 
 -- as a quote may list them
-ordered-small : {c : Call} {es fs : List Entry} → AnswerOrder c es fs → Small es → Small fs
+ordered-small : {c : Call} {es fs : List Entry} → AnswerOrder c es fs → NumbersFit es → NumbersFit fs
 ordered-small asRuled s = s
 ordered-small (anyOrder k p) s = small-permuted p s
 
@@ -152,6 +147,9 @@ demand3 list image m = holds (map fed list) (decode image) (after-made m .after)
 valid-after : {image : List ℕ} (number : ℕ) (image′ : List ℕ) → KeepsImage image number image′ → validImage image ≡ true → validImage image′ ≡ true
 valid-after zero image′ K v = K .accepted refl
 valid-after (suc n) image′ K v = subst (λ (s : List ℕ). validImage s ≡ true) (sym (K .refused n refl)) v
+
+pub fresh-is-valid : FreshIsValid
+fresh-is-valid = fresh-valid
 
 pub stays-valid : StaysValid
 stays-valid start list image v noCalls = v
