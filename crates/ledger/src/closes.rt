@@ -1,38 +1,41 @@
 // The two closes of a day.
-use crate::columns::ASK;
-use crate::columns::BUYER;
-use crate::columns::Book;
-use crate::columns::DAY;
-use crate::columns::DUE;
-use crate::columns::OWNER;
-use crate::columns::PHASE;
-use crate::columns::RECEIPT_COLUMNS;
-use crate::columns::ROWS;
-use crate::columns::SELLER;
-use crate::columns::STATE;
-use crate::columns::WEIGHT;
-use crate::columns::ZONE;
-use crate::columns::cell;
-use crate::columns::note;
-use crate::columns::raise;
-use crate::columns::set_cell;
-use crate::holdings::free;
-use crate::holdings::full_of;
-use crate::holdings::pass;
-use crate::payments::DEPOSIT;
-use crate::payments::plus;
-use crate::records::within;
+use ledger_book::ASK;
+use ledger_book::BUYER;
+use ledger_book::Book;
+use ledger_book::CONTRACTS;
+use ledger_book::DAY;
+use ledger_book::DEPOSIT;
+use ledger_book::DUE;
+use ledger_book::OWNER;
+use ledger_book::PHASE;
+use ledger_book::RECEIPT_COLUMNS_END;
+use ledger_book::ROWS;
+use ledger_book::SELLER;
+use ledger_book::STATE;
+use ledger_book::WEIGHT;
+use ledger_book::ZONE;
+use ledger_book::cell;
+use ledger_book::free;
+use ledger_book::full_of;
+use ledger_book::note;
+use ledger_book::pass;
+use ledger_book::plus;
+use ledger_book::raise;
+use ledger_book::set_cell;
+use ledger_book::within;
 
 // A lot ends: the receipt is idle and keeps its owner and weight.
 pub fn end(book: &mut Book, lot: u64) {
-    for column in STATE..RECEIPT_COLUMNS {
+    for column in STATE..RECEIPT_COLUMNS_END {
         if column != WEIGHT {
             set_cell(book, column, lot, 0);
         }
     }
 }
 
-// "Money" means buyer's free + deposit ≥ full.
+// ── Morning ─────────────────────────────────────────────────────────────────────────────────────
+
+// Whether the buyer can make the full payment, the deposit counted in (01 Calls 15).
 fn has_money(book: &Book, lot: u64) -> bool {
     plus(free(book, cell(book, BUYER, lot)), DEPOSIT) >= full_of(book, lot)
 }
@@ -57,7 +60,7 @@ fn close_lodged(book: &mut Book, lot: u64, money: bool) {
 fn close_struck(book: &mut Book, lot: u64, money: bool) {
     let buyer = cell(book, BUYER, lot);
     let seller = cell(book, SELLER, lot);
-    let tomorrow = plus(cell(book, ZONE, DAY), 1);
+    let tomorrow = plus(cell(book, DAY, ZONE), 1);
     end(book, lot);
     if money {
         set_cell(book, STATE, lot, 7);
@@ -70,7 +73,7 @@ fn close_struck(book: &mut Book, lot: u64, money: bool) {
     }
 }
 
-// "the smaller of seller's free and the penalty passes to the buyer".
+// The seller pays the penalty as far as the free money goes.
 fn close_penalty(book: &mut Book, lot: u64) {
     let buyer = cell(book, BUYER, lot);
     let seller = cell(book, SELLER, lot);
@@ -85,7 +88,7 @@ fn close_penalty(book: &mut Book, lot: u64) {
 
 fn close_lot(book: &mut Book, lot: u64) {
     let state = cell(book, STATE, lot);
-    if cell(book, DUE, lot) <= cell(book, ZONE, DAY) {
+    if cell(book, DUE, lot) <= cell(book, DAY, ZONE) {
         let money = has_money(book, lot);
         match state {
             3 => close_struck(book, lot, money),
@@ -96,13 +99,15 @@ fn close_lot(book: &mut Book, lot: u64) {
     }
 }
 
-// "in ascending lot order, each lot of state 3, 4 or 7 with due ≤ day", on the balances that lower lots left. "Then afternoon."
+// Each lot goes by the balances that lower lots left (01 Calls 14 to 21).
 pub fn morning_close(book: &mut Book) {
     for lot in 1..ROWS {
         close_lot(book, lot);
     }
-    set_cell(book, ZONE, PHASE, 1);
+    set_cell(book, PHASE, ZONE, 1);
 }
+
+// ── Afternoon ───────────────────────────────────────────────────────────────────────────────────
 
 fn end_listings(book: &mut Book) {
     for lot in 1..ROWS {
@@ -114,12 +119,12 @@ fn end_listings(book: &mut Book) {
     }
 }
 
-// "states 1, 2 to idle, deposits freed; asks 0; next day, morning".
+// (01 Calls 25)
 pub fn day_close(book: &mut Book) {
     end_listings(book);
-    for contract in 1..9u64 {
+    for contract in 1..CONTRACTS + 1 {
         set_cell(book, ASK, contract, 0);
     }
-    raise(book, ZONE, DAY, 1);
-    set_cell(book, ZONE, PHASE, 0);
+    raise(book, DAY, ZONE, 1);
+    set_cell(book, PHASE, ZONE, 0);
 }

@@ -3,50 +3,50 @@
 use crate::closes::day_close;
 use crate::closes::end;
 use crate::closes::morning_close;
-use crate::columns::ASK;
-use crate::columns::BASIS;
-use crate::columns::BUYER;
-use crate::columns::Book;
-use crate::columns::CONFIRMED;
-use crate::columns::CONTRACT;
-use crate::columns::DAY;
-use crate::columns::DAYS;
-use crate::columns::DUE;
-use crate::columns::OWNER;
-use crate::columns::PAID;
-use crate::columns::PENDING;
-use crate::columns::PHASE;
-use crate::columns::PRICE;
-use crate::columns::ROWS;
-use crate::columns::SELLER;
-use crate::columns::STATE;
-use crate::columns::TOTAL;
-use crate::columns::WEALTH;
-use crate::columns::WEIGHT;
-use crate::columns::ZONE;
-use crate::columns::cell;
-use crate::columns::lower;
-use crate::columns::note;
-use crate::columns::raise;
-use crate::columns::set_cell;
-use crate::holdings::full_of;
-use crate::holdings::pass;
-use crate::numbers::ask_of;
-use crate::payments::first_payment;
-use crate::payments::part_payment;
-use crate::payments::plus;
-use crate::records::Call;
+use ledger_book::ASK;
+use ledger_book::BASIS;
+use ledger_book::BUYER;
+use ledger_book::Book;
+use ledger_book::CONFIRMED;
+use ledger_book::CONTRACT;
+use ledger_book::Call;
+use ledger_book::DAY;
+use ledger_book::DAYS;
+use ledger_book::DUE;
+use ledger_book::OWNER;
+use ledger_book::PAID;
+use ledger_book::PENDING;
+use ledger_book::PHASE;
+use ledger_book::PRICE;
+use ledger_book::ROWS;
+use ledger_book::SELLER;
+use ledger_book::STATE;
+use ledger_book::TOTAL;
+use ledger_book::WEALTH;
+use ledger_book::WEIGHT;
+use ledger_book::ZONE;
+use ledger_book::ask_of;
+use ledger_book::cell;
+use ledger_book::first_payment;
+use ledger_book::full_of;
+use ledger_book::lower;
+use ledger_book::note;
+use ledger_book::part_payment;
+use ledger_book::pass;
+use ledger_book::plus;
+use ledger_book::raise;
+use ledger_book::set_cell;
 
 // ── Money and receipts ──────────────────────────────────────────────────────────────────────────
 
 fn pay_in(book: &mut Book, c: Call) {
     raise(book, WEALTH, c.account, c.amount);
-    raise(book, ZONE, TOTAL, c.amount);
+    raise(book, TOTAL, ZONE, c.amount);
 }
 
 fn take_out(book: &mut Book, c: Call) {
     lower(book, WEALTH, c.account, c.amount);
-    lower(book, ZONE, TOTAL, c.amount);
+    lower(book, TOTAL, ZONE, c.amount);
 }
 
 fn register(book: &mut Book, c: Call) {
@@ -71,17 +71,17 @@ fn withdraw_listing(book: &mut Book, c: Call) {
 
 // ── Bids and strikes ────────────────────────────────────────────────────────────────────────────
 
-// "Due day is day + D, but day + 1 if struck in an afternoon with D 0."
+// D days on, but never the same day once that day's morning close is over (01 Calls 26).
 fn due_day(book: &Book, lot: u64) -> u64 {
-    let day = cell(book, ZONE, DAY);
+    let day = cell(book, DAY, ZONE);
     let days = cell(book, DAYS, lot);
-    if (cell(book, ZONE, PHASE) == 1) & (days == 0) {
+    if (cell(book, PHASE, ZONE) == 1) & (days == 0) {
         return plus(day, 1);
     }
     plus(day, days)
 }
 
-// An entry from a lot's buyer to its seller.
+// An entry from a lot's buyer to its seller (01 Answers 7).
 fn note_from_buyer(book: &mut Book, lot: u64, outcome: u64, number: u64) {
     let buyer = cell(book, BUYER, lot);
     let seller = cell(book, SELLER, lot);
@@ -111,7 +111,7 @@ fn bid(book: &mut Book, lot: u64, buyer: u64, price: u64) {
     note_from_buyer(book, lot, 4, price);
 }
 
-// "If the contract has an ask ≤ price, struck now at the price bid; else it stands."
+// An ask at or below the price strikes the bid at once (01 Calls 9).
 fn limit_bid(book: &mut Book, c: Call) {
     let ask = ask_of(book, c.receipt);
     bid(book, c.receipt, c.account, c.amount);
@@ -120,7 +120,6 @@ fn limit_bid(book: &mut Book, c: Call) {
     }
 }
 
-// "struck now at the ask".
 fn market_bid(book: &mut Book, c: Call) {
     let ask = ask_of(book, c.receipt);
     bid(book, c.receipt, c.account, ask);
@@ -134,7 +133,7 @@ fn withdraw_bid(book: &mut Book, c: Call) {
     set_cell(book, PRICE, c.receipt, 0);
 }
 
-// Whether the ask strikes the lot: "every standing bid of that contract ≥ a non-zero ask".
+// Whether the contract's new ask strikes the bid that stands on the lot (01 Calls 12).
 fn is_met(book: &Book, lot: u64, contract: u64, ask: u64) -> bool {
     let stands = (cell(book, STATE, lot) == 2) & (cell(book, CONTRACT, lot) == contract);
     stands & (ask != 0) & (cell(book, PRICE, lot) >= ask)
@@ -175,7 +174,7 @@ fn invoice(book: &mut Book, c: Call) {
     note_from_seller(book, c.receipt, 10, c.amount);
 }
 
-// "pays; at full, idle".
+// The invoice is paid its part; with the last one the lot ends (01 Calls 24).
 fn confirm(book: &mut Book, c: Call) {
     let lot = c.receipt;
     let full = full_of(book, lot);

@@ -1,50 +1,26 @@
-// Buffers of one size for image, call record and answer, with bytes to spare for lengths that are too long.
-ghost use mathlib.Core.Path.{_≡_};
-ghost use lib.ListN.{length};
-use ledger::Page;
+// Buffers that a call may write are filled with one byte before it, so that what it leaves alone shows.
+use ledger_book::PAGE_LENGTH;
+use ledger_book::Page;
 
-pub type Buffer = Page;
+const FILL: u8 = 195;
 
-// What buffers that a call may write are filled with before it.
-pub const FILL: u8 = 195;
-
-// The same buffer; the promise of its length is what lending it as a slice needs.
-pub fn sized(buffer: Buffer) -> Buffer
-    ensures { λ r. ⌜ 5760 ≡ length r ⌝ }
-{
-    buffer
+pub fn filled() -> Page {
+    [FILL; PAGE_LENGTH]
 }
 
-pub fn filled() -> Buffer
-    ensures { λ r. ⌜ 5760 ≡ length r ⌝ }
-{
-    [FILL; 5760]
-}
-
-pub fn zeros() -> Buffer
-    ensures { λ r. ⌜ 5760 ≡ length r ⌝ }
-{
-    [0; 5760]
-}
-
-// The number in `size` bytes from `at` on. Taking a `Buffer` and not a slice, it asks its callers for no proof of a length.
-pub fn field(buffer: &Buffer, at: u64, size: u64) -> u64 {
-    ledger::field(buffer, at, size)
-}
-
-pub fn same(a: &Buffer, b: &Buffer) -> bool {
+pub fn same(a: &Page, b: &Page) -> bool {
     let mut same = true;
-    for k in 0..5760usize {
+    for k in 0..PAGE_LENGTH {
         same = same & (a[k] == b[k]);
     }
     same
 }
 
 // Whether all bytes from `start` on are as `filled` leaves them.
-pub fn is_filled(buffer: &Buffer, start: usize) -> bool {
+pub fn is_filled(page: &Page, start: usize) -> bool {
     let mut same = true;
-    for k in start..5760usize {
-        same = same & (buffer[k] == FILL);
+    for k in start..PAGE_LENGTH {
+        same = same & (page[k] == FILL);
     }
     same
 }

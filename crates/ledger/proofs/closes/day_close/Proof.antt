@@ -1,13 +1,13 @@
 use borrow.Author.Needs.{needs}
-use Prim.Native.Nat.{_≤_, _-_}
+use Rattle.ledger_book.specs.Loops.{left}
 use Rattle.ledger.proofs.closes.day_close.Statement.{statement}
 use Rattle.ledger.proofs.closes.day_close.Tie as tie
 
 abbrev Inv-loop : tie.InvT-loop
-Inv-loop book₀ contract₀ book contract = contract ≤ 9
+Inv-loop book₀ contract₀ book contract = Unit {0}
 
 abbrev μ-loop : tie.MeasureT-loop
-μ-loop book₀ contract₀ book contract = 9 - contract
+μ-loop book₀ contract₀ book contract = left contract
 
 end-listings-requires : tie.Need-end-listings-requires Inv-loop μ-loop
 end-listings-requires c κs = search needs

@@ -1,13 +1,13 @@
 use borrow.Author.Needs.{needs}
-use Prim.Native.Nat.{_≤_, _-_}
+use Rattle.ledger_book.specs.Loops.{left}
 use Rattle.ledger.proofs.closes.end.Statement.{statement}
 use Rattle.ledger.proofs.closes.end.Tie as tie
 
 abbrev Inv-loop : tie.InvT-loop
-Inv-loop book₀ lot column₀ book column = column ≤ 13
+Inv-loop book₀ lot column₀ book column = Unit {0}
 
 abbrev μ-loop : tie.MeasureT-loop
-μ-loop book₀ lot column₀ book column = 13 - column
+μ-loop book₀ lot column₀ book column = left column
 
 loop-holds : tie.Need-loop-holds Inv-loop μ-loop
 loop-holds c = search needs

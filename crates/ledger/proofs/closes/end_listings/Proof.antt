@@ -1,13 +1,13 @@
 use borrow.Author.Needs.{needs}
-use Prim.Native.Nat.{_≤_, _-_}
+use Rattle.ledger_book.specs.Loops.{left}
 use Rattle.ledger.proofs.closes.end_listings.Statement.{statement}
 use Rattle.ledger.proofs.closes.end_listings.Tie as tie
 
 abbrev Inv-loop : tie.InvT-loop
-Inv-loop book₀ lot₀ book lot = lot ≤ 129
+Inv-loop book₀ lot₀ book lot = Unit {0}
 
 abbrev μ-loop : tie.MeasureT-loop
-μ-loop book₀ lot₀ book lot = 129 - lot
+μ-loop book₀ lot₀ book lot = left lot
 
 loop-holds : tie.Need-loop-holds Inv-loop μ-loop
 loop-holds c = search needs

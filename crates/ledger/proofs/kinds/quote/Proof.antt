@@ -1,13 +1,13 @@
 use borrow.Author.Needs.{needs}
-use Prim.Native.Nat.{_≤_, _-_}
+use Rattle.ledger_book.specs.Loops.{left}
 use Rattle.ledger.proofs.kinds.quote.Statement.{statement}
 use Rattle.ledger.proofs.kinds.quote.Tie as tie
 
 abbrev Inv-loop : tie.InvT-loop
-Inv-loop book₀ contract ask lot₀ book lot = lot ≤ 129
+Inv-loop book₀ contract ask lot₀ book lot = Unit {0}
 
 abbrev μ-loop : tie.MeasureT-loop
-μ-loop book₀ contract ask lot₀ book lot = 129 - lot
+μ-loop book₀ contract ask lot₀ book lot = left lot
 
 set-cell-requires : tie.Need-set-cell-requires Inv-loop μ-loop
 set-cell-requires c κs = search needs

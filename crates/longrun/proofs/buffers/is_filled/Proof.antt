@@ -1,13 +1,13 @@
 use borrow.Author.Needs.{needs}
-use Prim.Native.Nat.{_≤_, _-_}
+use Rattle.ledger_book.specs.Loops.{left}
 use Rattle.longrun.proofs.buffers.is_filled.Statement.{statement}
 use Rattle.longrun.proofs.buffers.is_filled.Tie as tie
 
 abbrev Inv-loop : tie.InvT-loop
-Inv-loop buffer start same₀ k₀ same k = 0 ≤ 0
+Inv-loop page start same₀ k₀ same k = Unit {0}
 
 abbrev μ-loop : tie.MeasureT-loop
-μ-loop buffer start same₀ k₀ same k = 5760 - k
+μ-loop page start same₀ k₀ same k = left k
 
 loop-holds : tie.Need-loop-holds Inv-loop μ-loop
 loop-holds c = search needs
@@ -30,12 +30,4 @@ returns c = search needs
 pub is-filled-spec : {M : Type 1} → statement M
 is-filled-spec =
     tie.close
-    (tie.spec
-    Inv-loop
-    μ-loop
-    loop-holds
-    element-copy-out-same
-    add-k
-    loop-less
-    loop-again
-    returns)
+    (tie.spec Inv-loop μ-loop loop-holds element-copy-out-same add-k loop-less loop-again returns)

@@ -1,13 +1,13 @@
 use borrow.Author.Needs.{needs}
-use Prim.Native.Nat.{_≤_, _-_}
+use Rattle.ledger_book.specs.Loops.{left}
 use Rattle.longrun.proofs.buffers.same.Statement.{statement}
 use Rattle.longrun.proofs.buffers.same.Tie as tie
 
 abbrev Inv-loop : tie.InvT-loop
-Inv-loop a b same₀ k₀ same k = k ≤ 5760
+Inv-loop a b same₀ k₀ same k = Unit {0}
 
 abbrev μ-loop : tie.MeasureT-loop
-μ-loop a b same₀ k₀ same k = 5760 - k
+μ-loop a b same₀ k₀ same k = left k
 
 loop-holds : tie.Need-loop-holds Inv-loop μ-loop
 loop-holds c = search needs

@@ -1,0 +1,67 @@
+// The fresh entry on both sides, for a buffer of any length.
+use crate::buffers::filled;
+use crate::buffers::is_filled;
+use crate::buffers::same;
+use crate::compare::at_most;
+use crate::compare::wide;
+use crate::tally::FRESH;
+use crate::tally::Tally;
+use crate::tally::add;
+use crate::tally::count_difference;
+use ledger_book::IMAGE_LENGTH;
+use ledger_book::PAGE_LENGTH;
+use ledger_book::Page;
+
+fn fresh_lent(library: bool, image: &mut [u8]) -> u64 {
+    if library {
+        return wide(crz::crz_fresh(image));
+    }
+    ledger::fresh(image)
+}
+
+fn lend(library: bool, image: &mut [u8], length: usize) -> u64 {
+    let end = at_most(length, image.len());
+    fresh_lent(library, &mut image[..end])
+}
+
+fn lend_page(library: bool, image: &mut Page, length: usize) -> u64 {
+    lend(library, image, length)
+}
+
+// What document 01 leaves as it was: bytes past the image, and all of them at number 2.
+fn left_alone(number: u64, image: &Page) -> bool {
+    if number == 0 {
+        return is_filled(image, IMAGE_LENGTH);
+    }
+    is_filled(image, 0)
+}
+
+fn show(tally: &mut Tally, length: usize) {
+    if count_difference(tally) {
+        io::write_all(1, b"difference at the fresh entry, length ");
+        io::print_decimal(1, length as u64);
+        io::write_all(1, b"\n");
+    }
+}
+
+// Both sides write a fresh image into a buffer of `length` bytes; numbers and buffers are compared.
+pub fn make_fresh(length: usize, image: &mut Page, second: &mut Page, tally: &mut Tally) {
+    *image = filled();
+    *second = filled();
+    let number = lend_page(true, image, length);
+    let of_ledger = lend_page(false, second, length);
+    add(tally, FRESH, 1);
+    let agree = (number == of_ledger) & (number <= 2) & same(image, second);
+    if !(agree & left_alone(number, image)) {
+        show(tally, length);
+    }
+}
+
+// Every length that a buffer can have here; the right one is among them.
+pub fn all_lengths(tally: &mut Tally) {
+    let mut image: Page = filled();
+    let mut second: Page = filled();
+    for length in 0..PAGE_LENGTH + 1 {
+        make_fresh(length, &mut image, &mut second, tally);
+    }
+}

@@ -1,0 +1,100 @@
+// Parties, prices and weights, mostly such as carry a lot on, now and then at the end of a range or just beyond it.
+use crate::draws::below;
+use crate::draws::beside;
+use crate::draws::between;
+use crate::draws::percent;
+use crate::requests::of_zone;
+use ledger_book::CONTRACTS;
+use ledger_book::DAY;
+use ledger_book::LEAST_WEIGHT;
+use ledger_book::MOST_BASIS;
+use ledger_book::MOST_PRICE;
+use ledger_book::MOST_WEIGHT;
+use ledger_book::PRICE_STEP;
+use ledger_book::Page;
+use ledger_book::minus;
+use ledger_book::plus;
+use ledger_book::product;
+
+// Prices of this contract are low, so that full payments lie below the deposit.
+const CHEAP_CONTRACT: u64 = 8;
+
+// Mostly the party named.
+pub fn party(seed: &mut u64, accounts: u64, account: u64) -> u64 {
+    if percent(seed, 8) | (account == 0) {
+        return between(seed, 1, accounts);
+    }
+    account
+}
+
+// Mostly one of three that change from day to day, so that quotes meet bids on several lots, of each contract in its turn.
+pub fn some_contract(seed: &mut u64, image: &Page) -> u64 {
+    if percent(seed, 20) {
+        return between(seed, 1, CONTRACTS);
+    }
+    let day = of_zone(image, DAY);
+    plus(1, plus(day, below(seed, 3)) % CONTRACTS)
+}
+
+// ── Prices ──────────────────────────────────────────────────────────────────────────────────────
+
+fn steps(n: u64) -> u64 {
+    product(PRICE_STEP, n)
+}
+
+// The ends of the range of prices, and one step beyond each.
+pub fn price_edge(seed: &mut u64) -> u64 {
+    if percent(seed, 50) {
+        return steps(below(seed, 3));
+    }
+    minus(plus(MOST_PRICE, steps(below(seed, 3))), PRICE_STEP)
+}
+
+// Prices of a contract lie near each other, so that bids meet asks.
+pub fn near_price(seed: &mut u64, contract: u64) -> u64 {
+    if percent(seed, 3) {
+        return price_edge(seed);
+    }
+    if contract == CHEAP_CONTRACT {
+        return steps(between(seed, 1, 10));
+    }
+    plus(plus(14000, product(contract, 500)), steps(below(seed, 20)))
+}
+
+// One step below the standing bid up to four above it.
+pub fn price_beside(seed: &mut u64, standing: u64) -> u64 {
+    minus(plus(standing, steps(below(seed, 6))), PRICE_STEP)
+}
+
+// ── Basis and weight ────────────────────────────────────────────────────────────────────────────
+
+fn basis_edge(seed: &mut u64) -> u64 {
+    let edge = plus(MOST_BASIS, below(seed, 2));
+    if percent(seed, 50) {
+        return minus(0, edge);
+    }
+    edge
+}
+
+pub fn some_basis(seed: &mut u64, contract: u64) -> u64 {
+    if percent(seed, 2) {
+        return basis_edge(seed);
+    }
+    if percent(seed, 3) {
+        return minus(below(seed, MOST_BASIS), MOST_BASIS);
+    }
+    if contract == CHEAP_CONTRACT {
+        return minus(below(seed, 80), 50);
+    }
+    minus(below(seed, 801), 400)
+}
+
+pub fn some_weight(seed: &mut u64) -> u64 {
+    if percent(seed, 12) {
+        return beside(seed, LEAST_WEIGHT);
+    }
+    if percent(seed, 12) {
+        return beside(seed, MOST_WEIGHT);
+    }
+    between(seed, 39000, 43000)
+}

@@ -1,0 +1,211 @@
+// Calls that take a lot a step on, chosen by its state.
+use crate::choices::near_price;
+use crate::choices::party;
+use crate::choices::price_beside;
+use crate::choices::some_basis;
+use crate::choices::some_contract;
+use crate::choices::some_weight;
+use crate::draws::below;
+use crate::draws::beside;
+use crate::draws::between;
+use crate::draws::percent;
+use crate::money::meet_limit;
+use crate::money::pay_in;
+use crate::requests::Request;
+use crate::requests::full_of;
+use crate::requests::of_lot;
+use crate::requests::request_of;
+use ledger_book::BUYER;
+use ledger_book::CONFIRMED;
+use ledger_book::CONTRACT;
+use ledger_book::DEPOSIT;
+use ledger_book::MOST_AMOUNT;
+use ledger_book::OWNER;
+use ledger_book::PENDING;
+use ledger_book::PRICE;
+use ledger_book::Page;
+use ledger_book::SELLER;
+use ledger_book::STATE;
+use ledger_book::minus;
+use ledger_book::plus;
+
+// ── Receipts and listings ───────────────────────────────────────────────────────────────────────
+
+fn register(seed: &mut u64, accounts: u64, lot: u64) -> Request {
+    let mut q = request_of(3, between(seed, 1, accounts), lot, 0);
+    q.weight = some_weight(seed);
+    q
+}
+
+fn list(seed: &mut u64, accounts: u64, image: &Page, lot: u64) -> Request {
+    let owner = of_lot(image, lot, OWNER);
+    let mut q = request_of(4, party(seed, accounts, owner), lot, 0);
+    let contract = some_contract(seed, image);
+    q.contract = contract;
+    q.days = below(seed, 4);
+    q.basis = some_basis(seed, contract);
+    q
+}
+
+// An unregistered receipt is registered, another one listed; now and then the other way round.
+fn list_or_register(seed: &mut u64, accounts: u64, image: &Page, lot: u64) -> Request {
+    let unregistered = of_lot(image, lot, OWNER) == 0;
+    if percent(seed, 4) != unregistered {
+        return register(seed, accounts, lot);
+    }
+    list(seed, accounts, image, lot)
+}
+
+// ── Bids ────────────────────────────────────────────────────────────────────────────────────────
+
+// Near the standing bid, or a price of the contract.
+fn bid_price(seed: &mut u64, image: &Page, lot: u64) -> u64 {
+    let standing = of_lot(image, lot, PRICE);
+    if (standing != 0) & percent(seed, 70) {
+        return price_beside(seed, standing);
+    }
+    near_price(seed, of_lot(image, lot, CONTRACT))
+}
+
+// The buyer whose bid stands, or any account.
+fn bidder(seed: &mut u64, accounts: u64, buyer: u64) -> u64 {
+    if (buyer != 0) & percent(seed, 30) {
+        return buyer;
+    }
+    between(seed, 1, accounts)
+}
+
+// A limit bid, or the money for one: now and then the bidder's free money comes to the deposit first, or one fen beside it.
+fn bid(seed: &mut u64, accounts: u64, image: &Page, lot: u64) -> Request {
+    let account = bidder(seed, accounts, of_lot(image, lot, BUYER));
+    if percent(seed, 8) {
+        return meet_limit(seed, image, account, DEPOSIT);
+    }
+    request_of(6, account, lot, bid_price(seed, image, lot))
+}
+
+fn bid_or_withdraw(seed: &mut u64, accounts: u64, image: &Page, lot: u64) -> Request {
+    let buyer = of_lot(image, lot, BUYER);
+    let seller = of_lot(image, lot, SELLER);
+    let draw = below(seed, 100);
+    if draw < 65 {
+        return bid(seed, accounts, image, lot);
+    }
+    if draw < 80 {
+        return request_of(7, bidder(seed, accounts, buyer), lot, 0);
+    }
+    if draw < 90 {
+        return request_of(8, party(seed, accounts, buyer), lot, 0);
+    }
+    request_of(5, party(seed, accounts, seller), lot, 0)
+}
+
+// ── Delivery ────────────────────────────────────────────────────────────────────────────────────
+
+// A lot waits for the morning close, which asks for the buyer's money.
+fn await_close(seed: &mut u64, accounts: u64, image: &Page, lot: u64) -> Request {
+    let buyer = of_lot(image, lot, BUYER);
+    let full = full_of(image, lot);
+    if percent(seed, 40) {
+        let account = party(seed, accounts, buyer);
+        return pay_in(seed, image, account);
+    }
+    if full > DEPOSIT {
+        return meet_limit(seed, image, buyer, minus(full, DEPOSIT));
+    }
+    meet_limit(seed, image, buyer, 1)
+}
+
+// A struck lot is lodged, or waits unlodged for the close, which asks for the same money; or a bid comes too late.
+fn lodge_or_wait(seed: &mut u64, accounts: u64, image: &Page, lot: u64) -> Request {
+    let draw = below(seed, 100);
+    if draw < 40 {
+        return request_of(
+            10,
+            party(seed, accounts, of_lot(image, lot, SELLER)),
+            lot,
+            0,
+        );
+    }
+    if draw < 70 {
+        return await_close(seed, accounts, image, lot);
+    }
+    bid_or_withdraw(seed, accounts, image, lot)
+}
+
+fn await_penalty(seed: &mut u64, accounts: u64, image: &Page, lot: u64) -> Request {
+    let seller = of_lot(image, lot, SELLER);
+    if percent(seed, 40) {
+        let account = party(seed, accounts, seller);
+        return pay_in(seed, image, account);
+    }
+    meet_limit(seed, image, seller, DEPOSIT)
+}
+
+// ── Payment ─────────────────────────────────────────────────────────────────────────────────────
+
+// Invoices in parts, the last one exact, now and then one or two fen over, or about the most that a call may name.
+fn invoice_amount(seed: &mut u64, left: u64) -> u64 {
+    let draw = below(seed, 100);
+    if draw < 35 {
+        return left;
+    }
+    if draw < 45 {
+        return plus(left, between(seed, 1, 2));
+    }
+    if draw < 50 {
+        return beside(seed, MOST_AMOUNT);
+    }
+    if draw < 60 {
+        return between(seed, 1, 3);
+    }
+    between(seed, 1, plus(left, 1))
+}
+
+// What is pending is mostly confirmed, and where nothing is, an invoice comes.
+fn confirms(seed: &mut u64, pending: bool) -> bool {
+    if pending {
+        return percent(seed, 95);
+    }
+    percent(seed, 3)
+}
+
+fn invoice_or_confirm(seed: &mut u64, accounts: u64, image: &Page, lot: u64) -> Request {
+    let pending = of_lot(image, lot, PENDING) != 0;
+    if confirms(seed, pending) {
+        return request_of(14, party(seed, accounts, of_lot(image, lot, BUYER)), lot, 0);
+    }
+    let left = minus(full_of(image, lot), of_lot(image, lot, CONFIRMED));
+    let account = party(seed, accounts, of_lot(image, lot, SELLER));
+    request_of(13, account, lot, invoice_amount(seed, left))
+}
+
+// ── All states ──────────────────────────────────────────────────────────────────────────────────
+
+// The lot's state, now and then another one: the call then comes out of turn.
+fn turn(seed: &mut u64, image: &Page, lot: u64) -> u64 {
+    if percent(seed, 5) {
+        return below(seed, 8);
+    }
+    of_lot(image, lot, STATE)
+}
+
+// A call that takes the lot a step on, or moves the money that its next step asks for.
+pub fn step_lot(seed: &mut u64, accounts: u64, image: &Page, lot: u64) -> Request {
+    let state = turn(seed, image, lot);
+    match state {
+        0 => list_or_register(seed, accounts, image, lot),
+        1 => bid_or_withdraw(seed, accounts, image, lot),
+        2 => bid_or_withdraw(seed, accounts, image, lot),
+        3 => lodge_or_wait(seed, accounts, image, lot),
+        4 => await_close(seed, accounts, image, lot),
+        5 => request_of(
+            12,
+            party(seed, accounts, of_lot(image, lot, SELLER)),
+            lot,
+            0,
+        ),
+        6 => invoice_or_confirm(seed, accounts, image, lot),
+        _ => await_penalty(seed, accounts, image, lot),
+    }
+}

@@ -1,0 +1,65 @@
+// Sensible calls: chosen by what the image has, so that lots go through all states.
+use crate::choices::near_price;
+use crate::choices::some_contract;
+use crate::draws::below;
+use crate::draws::between;
+use crate::draws::percent;
+use crate::lots::step_lot;
+use crate::money::pay_in;
+use crate::money::take_out;
+use crate::requests::Request;
+use crate::requests::of_zone;
+use crate::requests::quote_of;
+use crate::requests::request_of;
+use ledger_book::PHASE;
+use ledger_book::Page;
+use ledger_book::plus;
+
+// One run: how many calls, how many receipts and accounts they draw from, closes per thousand calls, the first day, and the calls that
+// come before the drawn ones.
+pub struct Plan {
+    pub seed: u64,
+    pub calls: u64,
+    pub receipts: u64,
+    pub accounts: u64,
+    pub closes: u64,
+    pub day: u64,
+    pub opening: u64,
+}
+
+// The close that the phase asks for, now and then the other one.
+pub fn close_phase(seed: &mut u64, image: &Page) -> Request {
+    let morning = of_zone(image, PHASE) == 0;
+    if morning != percent(seed, 5) {
+        return request_of(11, 0, 0, 0);
+    }
+    request_of(15, 0, 0, 0)
+}
+
+// A price of the contract, or no ask.
+fn quote(seed: &mut u64, image: &Page) -> Request {
+    let contract = some_contract(seed, image);
+    if percent(seed, 30) {
+        return quote_of(contract, 0);
+    }
+    quote_of(contract, near_price(seed, contract))
+}
+
+pub fn sensible(seed: &mut u64, plan: Plan, image: &Page) -> Request {
+    let draw = below(seed, 1000);
+    let account = between(seed, 1, plan.accounts);
+    let lot = between(seed, 1, plan.receipts);
+    if draw < 50 {
+        return quote(seed, image);
+    }
+    if draw < 100 {
+        return pay_in(seed, image, account);
+    }
+    if draw < 130 {
+        return take_out(seed, image, account);
+    }
+    if draw < plus(130, plan.closes) {
+        return close_phase(seed, image);
+    }
+    step_lot(seed, plan.accounts, image, lot)
+}
