@@ -14,9 +14,11 @@ use ledger_book::CALL_RECEIPT_END;
 use ledger_book::CALL_WEIGHT_END;
 use ledger_book::CALL_ZEROS_END;
 use ledger_book::Page;
+use ledger_book::TOTAL;
 use ledger_book::empty_page;
 use ledger_book::put_field;
 use longrun_calls::Request;
+use longrun_calls::of_zone;
 
 // ── The call on each side ───────────────────────────────────────────────────────────────────────
 
@@ -112,8 +114,9 @@ fn left_alone(number: u64, before: &Page, image: &Page, answer: &Page) -> bool {
     is_filled(answer, ANSWER_LENGTH) & same(before, image)
 }
 
-// Both numbers, and whether number, image and answer are as they must be.
+// The total before the call, both numbers, and whether number, image and answer are as they must be.
 pub struct Verdict {
+    pub total: u64,
     pub of_library: u64,
     pub of_ledger: u64,
     pub agree: bool,
@@ -125,15 +128,14 @@ pub fn drive(q: Request, image: &mut Page, second: &mut Page, answer: &mut Page)
     let mut other: Page = filled();
     let number = make_call(true, q, image, answer);
     let of_ledger = make_call(false, q, second, &mut other);
-    let agree = (number == of_ledger)
-        & (number <= 13)
-        & same(image, second)
-        & same(answer, &other)
-        & left_alone(number, &before, image, answer);
+    let alike = same(image, second) & same(answer, &other);
+    let untouched = left_alone(number, &before, image, answer);
+    let agree = (number == of_ledger) & (number <= 13) & alike & untouched;
     if !agree {
         *second = *image;
     }
     Verdict {
+        total: of_zone(&before, TOTAL),
         of_library: number,
         of_ledger: of_ledger,
         agree: agree,

@@ -4,13 +4,13 @@ use crate::buffers::is_filled;
 use crate::buffers::same;
 use crate::compare::at_most;
 use crate::compare::wide;
-use crate::tally::FRESH;
-use crate::tally::Tally;
-use crate::tally::add;
-use crate::tally::count_difference;
 use ledger_book::IMAGE_LENGTH;
 use ledger_book::PAGE_LENGTH;
 use ledger_book::Page;
+use longrun_counts::Tally;
+use longrun_counts::count_difference;
+use longrun_counts::count_fresh;
+use longrun_counts::line;
 
 fn fresh_lent(library: bool, image: &mut [u8]) -> u64 {
     if library {
@@ -36,24 +36,18 @@ fn left_alone(number: u64, image: &Page) -> bool {
     is_filled(image, 0)
 }
 
-fn show(tally: &mut Tally, length: usize) {
-    if count_difference(tally) {
-        io::write_all(1, b"difference at the fresh entry, length ");
-        io::print_decimal(1, length as u64);
-        io::write_all(1, b"\n");
-    }
-}
-
 // Both sides write a fresh image into a buffer of `length` bytes; numbers and buffers are compared.
 pub fn make_fresh(length: usize, image: &mut Page, second: &mut Page, tally: &mut Tally) {
     *image = filled();
     *second = filled();
     let number = lend_page(true, image, length);
     let of_ledger = lend_page(false, second, length);
-    add(tally, FRESH, 1);
+    count_fresh(tally);
     let agree = (number == of_ledger) & (number <= 2) & same(image, second);
     if !(agree & left_alone(number, image)) {
-        show(tally, length);
+        if count_difference(tally) {
+            line(b"difference at the fresh entry, length ", length as u64);
+        }
     }
 }
 

@@ -6,18 +6,17 @@
 // The last line counts the differences.
 mod buffers;
 mod compare;
-mod counts;
 mod fresh_entry;
-mod rows;
 mod runs;
-mod tally;
 
 use longrun_calls::EACH_CONTRACT;
 use longrun_calls::NO_OPENING;
 use longrun_calls::ONE_CONTRACT;
 use longrun_calls::Plan;
 use longrun_calls::TO_LIMIT;
-use tally::Tally;
+use longrun_counts::Tally;
+use longrun_counts::empty_tally;
+use longrun_counts::print_all;
 
 fn plan(seed: u64, calls: u64, receipts: u64, accounts: u64, closes: u64) -> Plan {
     Plan {
@@ -58,10 +57,10 @@ fn last_days(tally: &mut Tally) {
 }
 
 fn main() {
-    let mut tally: Tally = tally::empty_tally();
+    let mut tally: Tally = empty_tally();
     fresh_entry::all_lengths(&mut tally);
     small_zones(&mut tally);
     long_answers(&mut tally);
     last_days(&mut tally);
-    rows::print_all(&tally);
+    print_all(&tally);
 }

@@ -2,45 +2,35 @@
 use crate::buffers::filled;
 use crate::compare::Verdict;
 use crate::compare::drive;
-use crate::counts::count;
-use crate::counts::count_limits;
 use crate::fresh_entry::make_fresh;
-use crate::tally::CALLS;
-use crate::tally::REFUSED_IMAGES;
-use crate::tally::Tally;
-use crate::tally::VALID_IMAGES;
-use crate::tally::add;
-use crate::tally::count_difference;
-use crate::tally::counted;
 use ledger_book::DAY;
 use ledger_book::IMAGE_LENGTH;
 use ledger_book::Page;
-use ledger_book::TOTAL;
 use ledger_book::ZONE;
 use ledger_book::set_page_cell;
 use longrun_calls::Plan;
 use longrun_calls::Request;
 use longrun_calls::below;
-use longrun_calls::make_wild;
-use longrun_calls::of_zone;
 use longrun_calls::opening_call;
 use longrun_calls::opening_calls;
 use longrun_calls::sensible;
-use longrun_images::alter;
+use longrun_counts::CALLS;
+use longrun_counts::Tally;
+use longrun_counts::count_altered;
+use longrun_counts::count_call;
+use longrun_counts::count_difference;
+use longrun_counts::counted;
+use longrun_counts::line;
+use longrun_wild::alter;
+use longrun_wild::make_wild;
 
-// The first differences are shown: at which call, counted over all runs, its kind as the record has it, and both numbers.
-fn show(tally: &mut Tally, place: &[u8], q: Request, v: Verdict) {
+// The first differences are shown: after how many calls of all runs, the kind as the record has it, and both numbers.
+fn show(tally: &mut Tally, words: &[u8], kind: u64, v: Verdict) {
     if count_difference(tally) {
-        io::write_all(1, b"difference at ");
-        io::write_all(1, place);
-        io::print_decimal(1, counted(tally, CALLS));
-        io::write_all(1, b", kind ");
-        io::print_decimal(1, q.kind % 256);
-        io::write_all(1, b": library ");
-        io::print_decimal(1, v.of_library);
-        io::write_all(1, b", ledger ");
-        io::print_decimal(1, v.of_ledger);
-        io::write_all(1, b"\n");
+        line(words, counted(tally, CALLS));
+        line(b"  kind ", kind % 256);
+        line(b"  number of the library ", v.of_library);
+        line(b"  number of the ledger ", v.of_ledger);
     }
 }
 
@@ -48,29 +38,26 @@ fn show(tally: &mut Tally, place: &[u8], q: Request, v: Verdict) {
 fn judge_altered(seed: &mut u64, plan: Plan, image: &Page, tally: &mut Tally) {
     let mut copy: Page = *image;
     let q = alter(seed, plan, &mut copy);
-    let total = of_zone(&copy, TOTAL);
     let mut second: Page = copy;
     let mut answer: Page = filled();
     let v = drive(q, &mut copy, &mut second, &mut answer);
-    count_limits(q, total, v.of_library, tally);
-    if v.of_library == 2 {
-        add(tally, REFUSED_IMAGES, 1);
-    } else {
-        add(tally, VALID_IMAGES, 1);
-    }
+    count_altered(q, v.total, v.of_library, tally);
     if !v.agree {
-        show(tally, b"an altered image after call ", q, v);
+        show(
+            tally,
+            b"difference at an altered image after call ",
+            q.kind,
+            v,
+        );
     }
 }
 
 fn make(q: Request, image: &mut Page, second: &mut Page, tally: &mut Tally) {
     let mut answer: Page = filled();
-    let total = of_zone(image, TOTAL);
     let v = drive(q, image, second, &mut answer);
-    count(q, v.of_library, image, &answer, tally);
-    count_limits(q, total, v.of_library, tally);
+    count_call(q, v.total, v.of_library, image, &answer, tally);
     if !v.agree {
-        show(tally, b"call ", q, v);
+        show(tally, b"difference at call ", q.kind, v);
     }
 }
 

@@ -1,4 +1,4 @@
-// The calls of the long runs: drawn from a seed by what the image has, or given by their number.
+// The calls of the long runs: drawn from a seed by what the image has, so that lots go through all states, or given by their number.
 mod choices;
 mod draws;
 mod lots;
@@ -6,7 +6,6 @@ mod money;
 mod openings;
 mod plans;
 mod requests;
-mod wild;
 
 pub use choices::price_edge;
 pub use draws::below;
@@ -30,6 +29,3 @@ pub use requests::full_of;
 pub use requests::of_lot;
 pub use requests::of_zone;
 pub use requests::request_of;
-pub use wild::edge;
-pub use wild::make_wild;
-pub use wild::odd_field;

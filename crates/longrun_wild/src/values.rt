@@ -1,0 +1,88 @@
+// Another value for a field.
+use crate::odd::edge;
+use ledger_book::ACCOUNTS;
+use ledger_book::ASK;
+use ledger_book::BASIS;
+use ledger_book::BUYER;
+use ledger_book::CONFIRMED;
+use ledger_book::CONTRACT;
+use ledger_book::CONTRACTS;
+use ledger_book::DAY;
+use ledger_book::DUE;
+use ledger_book::LAST_DAY;
+use ledger_book::LAST_DUE;
+use ledger_book::MOST_TOTAL;
+use ledger_book::MOST_WEIGHT;
+use ledger_book::OWNER;
+use ledger_book::PAID;
+use ledger_book::PENDING;
+use ledger_book::PRICE;
+use ledger_book::Page;
+use ledger_book::SELLER;
+use ledger_book::WEIGHT;
+use ledger_book::minus;
+use ledger_book::page_cell;
+use ledger_book::plus;
+use ledger_book::product;
+use ledger_book::rest_payment;
+use ledger_book::set_page_cell;
+use ledger_book::share;
+use longrun_calls::below;
+use longrun_calls::between;
+use longrun_calls::full_of;
+use longrun_calls::of_lot;
+use longrun_calls::price_edge;
+use longrun_calls::word;
+
+// A value at the field's own limit or just beyond, which other fields of the receipt may set.
+pub fn limit_in_receipt(seed: &mut u64, image: &Page, lot: u64, column: u64) -> u64 {
+    let beyond = below(seed, 2);
+    let full = full_of(image, lot);
+    let confirmed = of_lot(image, lot, CONFIRMED);
+    match column {
+        OWNER => plus(ACCOUNTS, beyond),
+        SELLER => of_lot(image, lot, BUYER),
+        BUYER => of_lot(image, lot, SELLER),
+        CONTRACT => plus(CONTRACTS, beyond),
+        DUE => plus(LAST_DUE, beyond),
+        WEIGHT => plus(MOST_WEIGHT, beyond),
+        BASIS => minus(beyond, of_lot(image, lot, PRICE)),
+        PRICE => price_edge(seed),
+        PENDING => plus(minus(full, confirmed), beyond),
+        CONFIRMED => minus(plus(full, beyond), plus(of_lot(image, lot, PENDING), 1)),
+        PAID => plus(share(rest_payment(full), confirmed, full), beyond),
+        _ => below(seed, 9),
+    }
+}
+
+// The same outside receipts.
+pub fn limit_in_zone(seed: &mut u64, column: u64) -> u64 {
+    let beyond = below(seed, 2);
+    match column {
+        DAY => plus(LAST_DAY, beyond),
+        ASK => price_edge(seed),
+        _ => plus(MOST_TOTAL, beyond),
+    }
+}
+
+fn other_value(seed: &mut u64, old: u64, limit: u64) -> u64 {
+    let draw = below(seed, 8);
+    match draw {
+        0 => plus(old, 1),
+        1 => minus(old, 1),
+        2 => plus(old, product(5, between(seed, 1, 3))),
+        3 => edge(seed),
+        4 => word(seed),
+        _ => limit,
+    }
+}
+
+// Puts another value into the field; what was added, modulo 2^64.
+pub fn displace(seed: &mut u64, image: &mut Page, column: u64, row: u64, limit: u64) -> u64 {
+    let old = page_cell(image, column, row);
+    set_page_cell(image, column, row, other_value(seed, old, limit));
+    if page_cell(image, column, row) == old {
+        set_page_cell(image, column, row, plus(old, 1));
+    }
+    minus(page_cell(image, column, row), old)
+}
