@@ -15,10 +15,12 @@ use ledger_book::CALL_WEIGHT_END;
 use ledger_book::CALL_ZEROS_END;
 use ledger_book::Page;
 use ledger_book::TOTAL;
+use ledger_book::ZONE;
 use ledger_book::empty_page;
+use ledger_book::page_cell;
 use ledger_book::put_field;
 use longrun_calls::Request;
-use longrun_calls::of_zone;
+use longrun_counts::Verdict;
 
 // ── The call on each side ───────────────────────────────────────────────────────────────────────
 
@@ -77,11 +79,6 @@ fn lend(
     )
 }
 
-fn make_call(library: bool, q: Request, image: &mut Page, answer: &mut Page) -> u64 {
-    let record: Page = record_of(q);
-    lend_pages(library, q, image, &record, answer)
-}
-
 fn lend_pages(
     library: bool,
     q: Request,
@@ -114,20 +111,13 @@ fn left_alone(number: u64, before: &Page, image: &Page, answer: &Page) -> bool {
     is_filled(answer, ANSWER_LENGTH) & same(before, image)
 }
 
-// The total before the call, both numbers, and whether number, image and answer are as they must be.
-pub struct Verdict {
-    pub total: u64,
-    pub of_library: u64,
-    pub of_ledger: u64,
-    pub agree: bool,
-}
-
 // Makes the call on both sides and compares; the answer is the library's. After a difference the ledger goes on with the library's image.
 pub fn drive(q: Request, image: &mut Page, second: &mut Page, answer: &mut Page) -> Verdict {
     let before: Page = *image;
+    let record: Page = record_of(q);
     let mut other: Page = filled();
-    let number = make_call(true, q, image, answer);
-    let of_ledger = make_call(false, q, second, &mut other);
+    let number = lend_pages(true, q, image, &record, answer);
+    let of_ledger = lend_pages(false, q, second, &record, &mut other);
     let alike = same(image, second) & same(answer, &other);
     let untouched = left_alone(number, &before, image, answer);
     let agree = (number == of_ledger) & (number <= 13) & alike & untouched;
@@ -135,7 +125,7 @@ pub fn drive(q: Request, image: &mut Page, second: &mut Page, answer: &mut Page)
         *second = *image;
     }
     Verdict {
-        total: of_zone(&before, TOTAL),
+        total: page_cell(&before, TOTAL, ZONE),
         of_library: number,
         of_ledger: of_ledger,
         agree: agree,

@@ -8,9 +8,7 @@ use ledger_book::IMAGE_LENGTH;
 use ledger_book::PAGE_LENGTH;
 use ledger_book::Page;
 use longrun_counts::Tally;
-use longrun_counts::count_difference;
 use longrun_counts::count_fresh;
-use longrun_counts::line;
 
 fn fresh_lent(library: bool, image: &mut [u8]) -> u64 {
     if library {
@@ -36,19 +34,17 @@ fn left_alone(number: u64, image: &Page) -> bool {
     is_filled(image, 0)
 }
 
-// Both sides write a fresh image into a buffer of `length` bytes; numbers and buffers are compared.
+// Both sides write a fresh image into a buffer of `length` bytes; whether numbers and buffers are as they must be.
+fn agree(length: usize, image: &mut Page, second: &mut Page) -> bool {
+    let number = lend_page(true, image, length);
+    let of_ledger = lend_page(false, second, length);
+    (number == of_ledger) & (number <= 2) & same(image, second) & left_alone(number, image)
+}
+
 pub fn make_fresh(length: usize, image: &mut Page, second: &mut Page, tally: &mut Tally) {
     *image = filled();
     *second = filled();
-    let number = lend_page(true, image, length);
-    let of_ledger = lend_page(false, second, length);
-    count_fresh(tally);
-    let agree = (number == of_ledger) & (number <= 2) & same(image, second);
-    if !(agree & left_alone(number, image)) {
-        if count_difference(tally) {
-            line(b"difference at the fresh entry, length ", length as u64);
-        }
-    }
+    count_fresh(length, agree(length, image, second), tally);
 }
 
 // Every length that a buffer can have here; the right one is among them.

@@ -1,6 +1,5 @@
 // A run: a zone from its fresh image on.
 use crate::buffers::filled;
-use crate::compare::Verdict;
 use crate::compare::drive;
 use crate::fresh_entry::make_fresh;
 use ledger_book::DAY;
@@ -14,25 +13,11 @@ use longrun_calls::below;
 use longrun_calls::opening_call;
 use longrun_calls::opening_calls;
 use longrun_calls::sensible;
-use longrun_counts::CALLS;
 use longrun_counts::Tally;
 use longrun_counts::count_altered;
 use longrun_counts::count_call;
-use longrun_counts::count_difference;
-use longrun_counts::counted;
-use longrun_counts::line;
 use longrun_wild::alter;
 use longrun_wild::make_wild;
-
-// The first differences are shown: after how many calls of all runs, the kind as the record has it, and both numbers.
-fn show(tally: &mut Tally, words: &[u8], kind: u64, v: Verdict) {
-    if count_difference(tally) {
-        line(words, counted(tally, CALLS));
-        line(b"  kind ", kind % 256);
-        line(b"  number of the library ", v.of_library);
-        line(b"  number of the ledger ", v.of_ledger);
-    }
-}
 
 // Both sides judge an altered copy, which is counted apart from the calls; the run goes on with the image as it was.
 fn judge_altered(seed: &mut u64, plan: Plan, image: &Page, tally: &mut Tally) {
@@ -41,24 +26,13 @@ fn judge_altered(seed: &mut u64, plan: Plan, image: &Page, tally: &mut Tally) {
     let mut second: Page = copy;
     let mut answer: Page = filled();
     let v = drive(q, &mut copy, &mut second, &mut answer);
-    count_altered(q, v.total, v.of_library, tally);
-    if !v.agree {
-        show(
-            tally,
-            b"difference at an altered image after call ",
-            q.kind,
-            v,
-        );
-    }
+    count_altered(q, v, tally);
 }
 
 fn make(q: Request, image: &mut Page, second: &mut Page, tally: &mut Tally) {
     let mut answer: Page = filled();
     let v = drive(q, image, second, &mut answer);
-    count_call(q, v.total, v.of_library, image, &answer, tally);
-    if !v.agree {
-        show(tally, b"difference at call ", q.kind, v);
-    }
+    count_call(q, v, image, &answer, tally);
 }
 
 fn next_call(seed: &mut u64, plan: Plan, image: &mut Page, second: &mut Page, tally: &mut Tally) {

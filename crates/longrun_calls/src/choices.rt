@@ -3,7 +3,6 @@ use crate::draws::below;
 use crate::draws::beside;
 use crate::draws::between;
 use crate::draws::percent;
-use crate::requests::of_zone;
 use ledger_book::CONTRACTS;
 use ledger_book::DAY;
 use ledger_book::LEAST_WEIGHT;
@@ -12,7 +11,9 @@ use ledger_book::MOST_PRICE;
 use ledger_book::MOST_WEIGHT;
 use ledger_book::PRICE_STEP;
 use ledger_book::Page;
+use ledger_book::ZONE;
 use ledger_book::minus;
+use ledger_book::page_cell;
 use ledger_book::plus;
 use ledger_book::product;
 
@@ -32,7 +33,7 @@ pub fn some_contract(seed: &mut u64, image: &Page) -> u64 {
     if percent(seed, 20) {
         return between(seed, 1, CONTRACTS);
     }
-    let day = of_zone(image, DAY);
+    let day = page_cell(image, DAY, ZONE);
     plus(1, plus(day, below(seed, 3)) % CONTRACTS)
 }
 
@@ -44,10 +45,11 @@ fn steps(n: u64) -> u64 {
 
 // The ends of the range of prices, and one step beyond each.
 pub fn price_edge(seed: &mut u64) -> u64 {
-    if percent(seed, 50) {
-        return steps(below(seed, 3));
+    let draw = below(seed, 6);
+    if draw < 3 {
+        return steps(draw);
     }
-    minus(plus(MOST_PRICE, steps(below(seed, 3))), PRICE_STEP)
+    plus(MOST_PRICE - PRICE_STEP, steps(minus(draw, 3)))
 }
 
 // Prices of a contract lie near each other, so that bids meet asks.
@@ -68,19 +70,16 @@ pub fn price_beside(seed: &mut u64, standing: u64) -> u64 {
 
 // ── Basis and weight ────────────────────────────────────────────────────────────────────────────
 
-fn basis_edge(seed: &mut u64) -> u64 {
-    let edge = plus(MOST_BASIS, below(seed, 2));
-    if percent(seed, 50) {
-        return minus(0, edge);
-    }
-    edge
-}
-
+// Now and then an end of the range or one beyond it, or far below 0.
 pub fn some_basis(seed: &mut u64, contract: u64) -> u64 {
-    if percent(seed, 2) {
-        return basis_edge(seed);
+    let draw = below(seed, 100);
+    if draw < 2 {
+        return plus(MOST_BASIS, draw);
     }
-    if percent(seed, 3) {
+    if draw < 4 {
+        return minus(2, plus(MOST_BASIS, draw));
+    }
+    if draw < 7 {
         return minus(below(seed, MOST_BASIS), MOST_BASIS);
     }
     if contract == CHEAP_CONTRACT {
@@ -90,10 +89,11 @@ pub fn some_basis(seed: &mut u64, contract: u64) -> u64 {
 }
 
 pub fn some_weight(seed: &mut u64) -> u64 {
-    if percent(seed, 12) {
+    let draw = below(seed, 100);
+    if draw < 12 {
         return beside(seed, LEAST_WEIGHT);
     }
-    if percent(seed, 12) {
+    if draw < 24 {
         return beside(seed, MOST_WEIGHT);
     }
     between(seed, 39000, 43000)

@@ -26,6 +26,4 @@ pub use plans::close_phase;
 pub use plans::sensible;
 pub use requests::Request;
 pub use requests::full_of;
-pub use requests::of_lot;
-pub use requests::of_zone;
 pub use requests::request_of;

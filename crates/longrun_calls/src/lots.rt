@@ -9,11 +9,10 @@ use crate::draws::below;
 use crate::draws::beside;
 use crate::draws::between;
 use crate::draws::percent;
+use crate::money::await_close;
 use crate::money::meet_limit;
-use crate::money::pay_in;
 use crate::requests::Request;
 use crate::requests::full_of;
-use crate::requests::of_lot;
 use crate::requests::request_of;
 use ledger_book::BUYER;
 use ledger_book::CONFIRMED;
@@ -27,6 +26,7 @@ use ledger_book::Page;
 use ledger_book::SELLER;
 use ledger_book::STATE;
 use ledger_book::minus;
+use ledger_book::page_cell;
 use ledger_book::plus;
 
 // ── Receipts and listings ───────────────────────────────────────────────────────────────────────
@@ -38,7 +38,7 @@ fn register(seed: &mut u64, accounts: u64, lot: u64) -> Request {
 }
 
 fn list(seed: &mut u64, accounts: u64, image: &Page, lot: u64) -> Request {
-    let owner = of_lot(image, lot, OWNER);
+    let owner = page_cell(image, OWNER, lot);
     let mut q = request_of(4, party(seed, accounts, owner), lot, 0);
     let contract = some_contract(seed, image);
     q.contract = contract;
@@ -49,7 +49,7 @@ fn list(seed: &mut u64, accounts: u64, image: &Page, lot: u64) -> Request {
 
 // An unregistered receipt is registered, another one listed; now and then the other way round.
 fn list_or_register(seed: &mut u64, accounts: u64, image: &Page, lot: u64) -> Request {
-    let unregistered = of_lot(image, lot, OWNER) == 0;
+    let unregistered = page_cell(image, OWNER, lot) == 0;
     if percent(seed, 4) != unregistered {
         return register(seed, accounts, lot);
     }
@@ -60,11 +60,11 @@ fn list_or_register(seed: &mut u64, accounts: u64, image: &Page, lot: u64) -> Re
 
 // Near the standing bid, or a price of the contract.
 fn bid_price(seed: &mut u64, image: &Page, lot: u64) -> u64 {
-    let standing = of_lot(image, lot, PRICE);
+    let standing = page_cell(image, PRICE, lot);
     if (standing != 0) & percent(seed, 70) {
         return price_beside(seed, standing);
     }
-    near_price(seed, of_lot(image, lot, CONTRACT))
+    near_price(seed, page_cell(image, CONTRACT, lot))
 }
 
 // The buyer whose bid stands, or any account.
@@ -77,7 +77,7 @@ fn bidder(seed: &mut u64, accounts: u64, buyer: u64) -> u64 {
 
 // A limit bid, or the money for one: now and then the bidder's free money comes to the deposit first, or one fen beside it.
 fn bid(seed: &mut u64, accounts: u64, image: &Page, lot: u64) -> Request {
-    let account = bidder(seed, accounts, of_lot(image, lot, BUYER));
+    let account = bidder(seed, accounts, page_cell(image, BUYER, lot));
     if percent(seed, 8) {
         return meet_limit(seed, image, account, DEPOSIT);
     }
@@ -85,8 +85,8 @@ fn bid(seed: &mut u64, accounts: u64, image: &Page, lot: u64) -> Request {
 }
 
 fn bid_or_withdraw(seed: &mut u64, accounts: u64, image: &Page, lot: u64) -> Request {
-    let buyer = of_lot(image, lot, BUYER);
-    let seller = of_lot(image, lot, SELLER);
+    let buyer = page_cell(image, BUYER, lot);
+    let seller = page_cell(image, SELLER, lot);
     let draw = below(seed, 100);
     if draw < 65 {
         return bid(seed, accounts, image, lot);
@@ -102,44 +102,41 @@ fn bid_or_withdraw(seed: &mut u64, accounts: u64, image: &Page, lot: u64) -> Req
 
 // ── Delivery ────────────────────────────────────────────────────────────────────────────────────
 
-// A lot waits for the morning close, which asks for the buyer's money.
-fn await_close(seed: &mut u64, accounts: u64, image: &Page, lot: u64) -> Request {
-    let buyer = of_lot(image, lot, BUYER);
+// What the buyer of a lot needs besides the deposit, and at least 1.
+fn limit_at_close(image: &Page, lot: u64) -> u64 {
     let full = full_of(image, lot);
-    if percent(seed, 40) {
-        let account = party(seed, accounts, buyer);
-        return pay_in(seed, image, account);
-    }
     if full > DEPOSIT {
-        return meet_limit(seed, image, buyer, minus(full, DEPOSIT));
+        return minus(full, DEPOSIT);
     }
-    meet_limit(seed, image, buyer, 1)
+    1
+}
+
+fn await_payment(seed: &mut u64, accounts: u64, image: &Page, lot: u64) -> Request {
+    let buyer = page_cell(image, BUYER, lot);
+    await_close(seed, accounts, image, buyer, limit_at_close(image, lot))
+}
+
+fn await_penalty(seed: &mut u64, accounts: u64, image: &Page, lot: u64) -> Request {
+    await_close(
+        seed,
+        accounts,
+        image,
+        page_cell(image, SELLER, lot),
+        DEPOSIT,
+    )
 }
 
 // A struck lot is lodged, or waits unlodged for the close, which asks for the same money; or a bid comes too late.
 fn lodge_or_wait(seed: &mut u64, accounts: u64, image: &Page, lot: u64) -> Request {
     let draw = below(seed, 100);
     if draw < 40 {
-        return request_of(
-            10,
-            party(seed, accounts, of_lot(image, lot, SELLER)),
-            lot,
-            0,
-        );
+        let account = party(seed, accounts, page_cell(image, SELLER, lot));
+        return request_of(10, account, lot, 0);
     }
     if draw < 70 {
-        return await_close(seed, accounts, image, lot);
+        return await_payment(seed, accounts, image, lot);
     }
     bid_or_withdraw(seed, accounts, image, lot)
-}
-
-fn await_penalty(seed: &mut u64, accounts: u64, image: &Page, lot: u64) -> Request {
-    let seller = of_lot(image, lot, SELLER);
-    if percent(seed, 40) {
-        let account = party(seed, accounts, seller);
-        return pay_in(seed, image, account);
-    }
-    meet_limit(seed, image, seller, DEPOSIT)
 }
 
 // ── Payment ─────────────────────────────────────────────────────────────────────────────────────
@@ -163,21 +160,15 @@ fn invoice_amount(seed: &mut u64, left: u64) -> u64 {
 }
 
 // What is pending is mostly confirmed, and where nothing is, an invoice comes.
-fn confirms(seed: &mut u64, pending: bool) -> bool {
-    if pending {
-        return percent(seed, 95);
-    }
-    percent(seed, 3)
-}
-
 fn invoice_or_confirm(seed: &mut u64, accounts: u64, image: &Page, lot: u64) -> Request {
-    let pending = of_lot(image, lot, PENDING) != 0;
-    if confirms(seed, pending) {
-        return request_of(14, party(seed, accounts, of_lot(image, lot, BUYER)), lot, 0);
+    let pending = page_cell(image, PENDING, lot) != 0;
+    if percent(seed, 4) != pending {
+        let buyer = party(seed, accounts, page_cell(image, BUYER, lot));
+        return request_of(14, buyer, lot, 0);
     }
-    let left = minus(full_of(image, lot), of_lot(image, lot, CONFIRMED));
-    let account = party(seed, accounts, of_lot(image, lot, SELLER));
-    request_of(13, account, lot, invoice_amount(seed, left))
+    let left = minus(full_of(image, lot), page_cell(image, CONFIRMED, lot));
+    let seller = party(seed, accounts, page_cell(image, SELLER, lot));
+    request_of(13, seller, lot, invoice_amount(seed, left))
 }
 
 // ── All states ──────────────────────────────────────────────────────────────────────────────────
@@ -187,7 +178,7 @@ fn turn(seed: &mut u64, image: &Page, lot: u64) -> u64 {
     if percent(seed, 5) {
         return below(seed, 8);
     }
-    of_lot(image, lot, STATE)
+    page_cell(image, STATE, lot)
 }
 
 // A call that takes the lot a step on, or moves the money that its next step asks for.
@@ -198,10 +189,10 @@ pub fn step_lot(seed: &mut u64, accounts: u64, image: &Page, lot: u64) -> Reques
         1 => bid_or_withdraw(seed, accounts, image, lot),
         2 => bid_or_withdraw(seed, accounts, image, lot),
         3 => lodge_or_wait(seed, accounts, image, lot),
-        4 => await_close(seed, accounts, image, lot),
+        4 => await_payment(seed, accounts, image, lot),
         5 => request_of(
             12,
-            party(seed, accounts, of_lot(image, lot, SELLER)),
+            party(seed, accounts, page_cell(image, SELLER, lot)),
             lot,
             0,
         ),

@@ -8,11 +8,12 @@ use crate::lots::step_lot;
 use crate::money::pay_in;
 use crate::money::take_out;
 use crate::requests::Request;
-use crate::requests::of_zone;
 use crate::requests::quote_of;
 use crate::requests::request_of;
 use ledger_book::PHASE;
 use ledger_book::Page;
+use ledger_book::ZONE;
+use ledger_book::page_cell;
 use ledger_book::plus;
 
 // One run: how many calls, how many receipts and accounts they draw from, closes per thousand calls, the first day, and the calls that
@@ -29,7 +30,7 @@ pub struct Plan {
 
 // The close that the phase asks for, now and then the other one.
 pub fn close_phase(seed: &mut u64, image: &Page) -> Request {
-    let morning = of_zone(image, PHASE) == 0;
+    let morning = page_cell(image, PHASE, ZONE) == 0;
     if morning != percent(seed, 5) {
         return request_of(11, 0, 0, 0);
     }

@@ -1,13 +1,11 @@
-// A call to be made, and what the image has that calls are chosen by.
+// A call to be made.
 use ledger_book::ANSWER_LENGTH;
 use ledger_book::BASIS;
 use ledger_book::CALL_LENGTH;
-use ledger_book::FREE;
 use ledger_book::IMAGE_LENGTH;
 use ledger_book::PRICE;
 use ledger_book::Page;
 use ledger_book::WEIGHT;
-use ledger_book::ZONE;
 use ledger_book::full_payment;
 use ledger_book::page_cell;
 
@@ -57,24 +55,11 @@ pub fn quote_of(contract: u64, ask: u64) -> Request {
     q
 }
 
-// ── What the image has ──────────────────────────────────────────────────────────────────────────
-
-pub fn of_zone(image: &Page, column: u64) -> u64 {
-    page_cell(image, column, ZONE)
-}
-
-pub fn of_lot(image: &Page, lot: u64, column: u64) -> u64 {
-    page_cell(image, column, lot)
-}
-
+// The full payment of a lot, as the image has it.
 pub fn full_of(image: &Page, lot: u64) -> u64 {
     full_payment(
-        of_lot(image, lot, PRICE),
-        of_lot(image, lot, BASIS),
-        of_lot(image, lot, WEIGHT),
+        page_cell(image, PRICE, lot),
+        page_cell(image, BASIS, lot),
+        page_cell(image, WEIGHT, lot),
     )
-}
-
-pub fn free_of(image: &Page, account: u64) -> u64 {
-    page_cell(image, FREE, account)
 }

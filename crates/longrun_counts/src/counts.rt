@@ -1,6 +1,8 @@
 // What a call has reached.
+use crate::rows::line;
 use crate::tally::BID_ON;
 use crate::tally::CALLS;
+use crate::tally::DIFFERENCES;
 use crate::tally::FRESH;
 use crate::tally::INVOICE_AMOUNT;
 use crate::tally::KIND_ROWS;
@@ -124,6 +126,35 @@ fn count_limits(q: Request, total: u64, number: u64, tally: &mut Tally) {
     }
 }
 
+// ── Differences ─────────────────────────────────────────────────────────────────────────────────
+
+// The total before the call, both numbers, and whether number, image and answer are as they must be.
+pub struct Verdict {
+    pub total: u64,
+    pub of_library: u64,
+    pub of_ledger: u64,
+    pub agree: bool,
+}
+
+// Counts a difference; whether it is one of the first five, which are shown.
+fn count_difference(tally: &mut Tally) -> bool {
+    add(tally, DIFFERENCES, 1);
+    counted(tally, DIFFERENCES) <= 5
+}
+
+// After how many calls of all runs, the kind as the record has it, and both numbers.
+fn show(words: &[u8], kind: u64, v: Verdict, tally: &mut Tally) {
+    if v.agree {
+        return;
+    }
+    if count_difference(tally) {
+        line(words, counted(tally, CALLS));
+        line(b"  kind ", kind % 256);
+        line(b"  number of the library ", v.of_library);
+        line(b"  number of the ledger ", v.of_ledger);
+    }
+}
+
 // ── All ─────────────────────────────────────────────────────────────────────────────────────────
 
 // The kind as the record has it; the kinds that document 01 does not know share the last row.
@@ -135,34 +166,42 @@ fn kind_row(kind: u64) -> u64 {
     KIND_ROWS - 1
 }
 
-// Counts a call that was driven; the total is that of the image before it, image and answer are as they are after it.
-pub fn count_call(
-    q: Request,
-    total: u64,
-    number: u64,
-    image: &Page,
-    answer: &Page,
-    tally: &mut Tally,
-) {
+// Counts a call that was driven; image and answer are as they are after it.
+pub fn count_call(q: Request, v: Verdict, image: &Page, answer: &Page, tally: &mut Tally) {
+    let number = v.of_library;
     add(tally, CALLS, 1);
     add(tally, pair(kind_row(q.kind), number), 1);
-    count_limits(q, total, number, tally);
+    count_limits(q, v.total, number, tally);
     if number == 0 {
         count_entries(answer, tally);
         count_contract(q, image, answer, tally);
     }
+    show(b"difference at call ", q.kind, v, tally);
 }
 
 // Counts a call on an altered image, apart from the others.
-pub fn count_altered(q: Request, total: u64, number: u64, tally: &mut Tally) {
-    count_limits(q, total, number, tally);
+pub fn count_altered(q: Request, v: Verdict, tally: &mut Tally) {
+    let number = v.of_library;
+    count_limits(q, v.total, number, tally);
     if number == 2 {
         add(tally, REFUSED_IMAGES, 1);
     } else {
         add(tally, VALID_IMAGES, 1);
     }
+    show(
+        b"difference at an altered image after call ",
+        q.kind,
+        v,
+        tally,
+    );
 }
 
-pub fn count_fresh(tally: &mut Tally) {
+// Counts a buffer given to the fresh entry.
+pub fn count_fresh(length: usize, agree: bool, tally: &mut Tally) {
     add(tally, FRESH, 1);
+    if !agree {
+        if count_difference(tally) {
+            line(b"difference at the fresh entry, length ", length as u64);
+        }
+    }
 }

@@ -3,13 +3,10 @@ mod counts;
 mod rows;
 mod tally;
 
+pub use counts::Verdict;
 pub use counts::count_altered;
 pub use counts::count_call;
 pub use counts::count_fresh;
-pub use rows::line;
 pub use rows::print_all;
-pub use tally::CALLS;
 pub use tally::Tally;
-pub use tally::count_difference;
-pub use tally::counted;
 pub use tally::empty_tally;

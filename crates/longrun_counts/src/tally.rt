@@ -105,9 +105,3 @@ pub fn add(tally: &mut Tally, place: u64, more: u64) {
     let value = plus(counted(tally, place), more);
     set(tally, place, value);
 }
-
-// Counts a difference; whether it is one of the first five, which are shown.
-pub fn count_difference(tally: &mut Tally) -> bool {
-    add(tally, DIFFERENCES, 1);
-    counted(tally, DIFFERENCES) <= 5
-}

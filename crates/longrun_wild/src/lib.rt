@@ -13,13 +13,13 @@ use ledger_book::Page;
 use ledger_book::TOTAL;
 use ledger_book::ZONE;
 use ledger_book::minus;
+use ledger_book::page_cell;
 use longrun_calls::Plan;
 use longrun_calls::Request;
 use longrun_calls::below;
 use longrun_calls::beside;
 use longrun_calls::between;
 use longrun_calls::close_phase;
-use longrun_calls::of_zone;
 use longrun_calls::pay_in;
 use longrun_calls::percent;
 use longrun_calls::sensible;
@@ -41,7 +41,7 @@ fn some_total(seed: &mut u64) -> u64 {
 // Gives an account the free money that the total lacks, and pays in what is left to the limit.
 fn near_limit(seed: &mut u64, image: &mut Page, accounts: u64) -> Request {
     let account = between(seed, 1, accounts);
-    let lacking = minus(some_total(seed), of_zone(image, TOTAL));
+    let lacking = minus(some_total(seed), page_cell(image, TOTAL, ZONE));
     raise_cell(image, FREE, account, lacking);
     raise_cell(image, TOTAL, ZONE, lacking);
     pay_in(seed, image, account)

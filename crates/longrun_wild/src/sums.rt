@@ -15,7 +15,6 @@ use ledger_book::page_cell;
 use ledger_book::plus;
 use ledger_book::set_page_cell;
 use longrun_calls::full_of;
-use longrun_calls::of_lot;
 
 pub fn raise_cell(image: &mut Page, column: u64, row: u64, by: u64) {
     let value = plus(page_cell(image, column, row), by);
@@ -29,11 +28,11 @@ fn clear_frozen(image: &mut Page) {
 }
 
 fn freeze(image: &mut Page, lot: u64) {
-    let buyer = of_lot(image, lot, BUYER);
+    let buyer = page_cell(image, BUYER, lot);
     let fen = held_in_state(
-        of_lot(image, lot, STATE),
+        page_cell(image, STATE, lot),
         full_of(image, lot),
-        of_lot(image, lot, PAID),
+        page_cell(image, PAID, lot),
     );
     if is_account(buyer) {
         raise_cell(image, FROZEN, buyer, fen);

@@ -30,7 +30,6 @@ use ledger_book::share;
 use longrun_calls::below;
 use longrun_calls::between;
 use longrun_calls::full_of;
-use longrun_calls::of_lot;
 use longrun_calls::price_edge;
 use longrun_calls::word;
 
@@ -38,18 +37,18 @@ use longrun_calls::word;
 pub fn limit_in_receipt(seed: &mut u64, image: &Page, lot: u64, column: u64) -> u64 {
     let beyond = below(seed, 2);
     let full = full_of(image, lot);
-    let confirmed = of_lot(image, lot, CONFIRMED);
+    let confirmed = page_cell(image, CONFIRMED, lot);
     match column {
         OWNER => plus(ACCOUNTS, beyond),
-        SELLER => of_lot(image, lot, BUYER),
-        BUYER => of_lot(image, lot, SELLER),
+        SELLER => page_cell(image, BUYER, lot),
+        BUYER => page_cell(image, SELLER, lot),
         CONTRACT => plus(CONTRACTS, beyond),
         DUE => plus(LAST_DUE, beyond),
         WEIGHT => plus(MOST_WEIGHT, beyond),
-        BASIS => minus(beyond, of_lot(image, lot, PRICE)),
+        BASIS => minus(beyond, page_cell(image, PRICE, lot)),
         PRICE => price_edge(seed),
         PENDING => plus(minus(full, confirmed), beyond),
-        CONFIRMED => minus(plus(full, beyond), plus(of_lot(image, lot, PENDING), 1)),
+        CONFIRMED => minus(plus(full, beyond), plus(page_cell(image, PENDING, lot), 1)),
         PAID => plus(share(rest_payment(full), confirmed, full), beyond),
         _ => below(seed, 9),
     }
