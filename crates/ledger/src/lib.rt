@@ -3,11 +3,9 @@
 //
 // It is built another way on purpose. The zone is a book of columns of numbers. Of an account it keeps one number, its wealth: free and
 // frozen money together. What is frozen is never moved: it is counted anew from the lots wherever it is asked for. A call's entries
-// stand in columns beside the lots that they are about. The book and the image are in `ledger_book`, the tests of a call in
-// `ledger_numbers`, what a call does is here.
+// stand in columns beside the lots that they are about. The book is in `ledger_book`, the image in `ledger_image`, the tests of a call
+// in `ledger_numbers`, what a call does in `ledger_kinds`; here are the answer and the two entries.
 mod answers;
-mod closes;
-mod kinds;
 
 use ledger_book::ANSWER_LENGTH;
 use ledger_book::Book;
@@ -30,7 +28,7 @@ pub fn call(image: &mut [u8], record: &[u8], answer: &mut [u8]) -> u64 {
     let mut book: Book = empty_book();
     let number = judge(&mut book, image, record);
     if number == 0 {
-        kinds::perform(&mut book, read_call(record));
+        ledger_kinds::perform(&mut book, read_call(record));
         write_image(&mut book, image);
         answers::accept(&book, answer);
     } else {

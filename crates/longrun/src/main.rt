@@ -4,9 +4,6 @@
 // a total about its limit. The fresh entry is compared for buffers of all lengths.
 //
 // The last line counts the differences.
-mod buffers;
-mod compare;
-mod fresh_entry;
 mod runs;
 
 use longrun_calls::EACH_CONTRACT;
@@ -58,7 +55,7 @@ fn last_days(tally: &mut Tally) {
 
 fn main() {
     let mut tally: Tally = empty_tally();
-    fresh_entry::all_lengths(&mut tally);
+    runs::all_lengths(&mut tally);
     small_zones(&mut tally);
     long_answers(&mut tally);
     last_days(&mut tally);

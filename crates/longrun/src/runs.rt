@@ -1,23 +1,39 @@
 // A run: a zone from its fresh image on.
-use crate::buffers::filled;
-use crate::compare::drive;
-use crate::fresh_entry::make_fresh;
 use ledger_book::DAY;
 use ledger_book::IMAGE_LENGTH;
+use ledger_book::PAGE_LENGTH;
 use ledger_book::Page;
 use ledger_book::ZONE;
 use ledger_book::set_page_cell;
 use longrun_calls::Plan;
-use longrun_calls::Request;
-use longrun_calls::below;
 use longrun_calls::opening_call;
 use longrun_calls::opening_calls;
 use longrun_calls::sensible;
 use longrun_counts::Tally;
 use longrun_counts::count_altered;
 use longrun_counts::count_call;
+use longrun_counts::count_fresh;
+use longrun_draws::Request;
+use longrun_draws::below;
+use longrun_sides::agree_on_fresh;
+use longrun_sides::drive;
+use longrun_sides::filled;
 use longrun_wild::alter;
 use longrun_wild::make_wild;
+
+// Both sides start on a fresh image.
+fn make_fresh(length: usize, image: &mut Page, second: &mut Page, tally: &mut Tally) {
+    count_fresh(length, agree_on_fresh(length, image, second), tally);
+}
+
+// Every length that a buffer can have here; the right one is among them.
+pub fn all_lengths(tally: &mut Tally) {
+    let mut image: Page = filled();
+    let mut second: Page = filled();
+    for length in 0..PAGE_LENGTH + 1 {
+        make_fresh(length, &mut image, &mut second, tally);
+    }
+}
 
 // Both sides judge an altered copy, which is counted apart from the calls; the run goes on with the image as it was.
 fn judge_altered(seed: &mut u64, plan: Plan, image: &Page, tally: &mut Tally) {

@@ -1,19 +1,4 @@
 // Calls that take a lot a step on, chosen by its state.
-use crate::choices::near_price;
-use crate::choices::party;
-use crate::choices::price_beside;
-use crate::choices::some_basis;
-use crate::choices::some_contract;
-use crate::choices::some_weight;
-use crate::draws::below;
-use crate::draws::beside;
-use crate::draws::between;
-use crate::draws::percent;
-use crate::money::await_close;
-use crate::money::meet_limit;
-use crate::requests::Request;
-use crate::requests::full_of;
-use crate::requests::request_of;
 use ledger_book::BUYER;
 use ledger_book::CONFIRMED;
 use ledger_book::CONTRACT;
@@ -28,6 +13,21 @@ use ledger_book::STATE;
 use ledger_book::minus;
 use ledger_book::page_cell;
 use ledger_book::plus;
+use longrun_draws::Request;
+use longrun_draws::await_close;
+use longrun_draws::below;
+use longrun_draws::beside;
+use longrun_draws::between;
+use longrun_draws::full_of;
+use longrun_draws::meet_limit;
+use longrun_draws::near_price;
+use longrun_draws::party;
+use longrun_draws::percent;
+use longrun_draws::price_beside;
+use longrun_draws::request_of;
+use longrun_draws::some_basis;
+use longrun_draws::some_contract;
+use longrun_draws::some_weight;
 
 // ── Receipts and listings ───────────────────────────────────────────────────────────────────────
 

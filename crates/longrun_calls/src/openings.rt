@@ -1,7 +1,4 @@
 // The calls that a run begins with, by their number.
-use crate::requests::Request;
-use crate::requests::quote_of;
-use crate::requests::request_of;
 use ledger_book::ACCOUNTS;
 use ledger_book::CONTRACTS;
 use ledger_book::MOST_AMOUNT;
@@ -11,6 +8,9 @@ use ledger_book::RECEIPTS;
 use ledger_book::minus;
 use ledger_book::plus;
 use ledger_book::product;
+use longrun_draws::Request;
+use longrun_draws::quote_of;
+use longrun_draws::request_of;
 
 // ── Which opening ───────────────────────────────────────────────────────────────────────────────
 

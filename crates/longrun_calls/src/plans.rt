@@ -1,20 +1,20 @@
 // Sensible calls: chosen by what the image has, so that lots go through all states.
-use crate::choices::near_price;
-use crate::choices::some_contract;
-use crate::draws::below;
-use crate::draws::between;
-use crate::draws::percent;
 use crate::lots::step_lot;
-use crate::money::pay_in;
-use crate::money::take_out;
-use crate::requests::Request;
-use crate::requests::quote_of;
-use crate::requests::request_of;
 use ledger_book::PHASE;
 use ledger_book::Page;
 use ledger_book::ZONE;
 use ledger_book::page_cell;
 use ledger_book::plus;
+use longrun_draws::Request;
+use longrun_draws::below;
+use longrun_draws::between;
+use longrun_draws::near_price;
+use longrun_draws::pay_in;
+use longrun_draws::percent;
+use longrun_draws::quote_of;
+use longrun_draws::request_of;
+use longrun_draws::some_contract;
+use longrun_draws::take_out;
 
 // One run: how many calls, how many receipts and accounts they draw from, closes per thousand calls, the first day, and the calls that
 // come before the drawn ones.

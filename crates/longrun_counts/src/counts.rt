@@ -37,7 +37,7 @@ use ledger_book::minus;
 use ledger_book::page_cell;
 use ledger_book::page_field;
 use ledger_book::plus;
-use longrun_calls::Request;
+use longrun_draws::Request;
 
 // ── Entries ─────────────────────────────────────────────────────────────────────────────────────
 

@@ -17,9 +17,9 @@ use ledger_book::ZONE;
 use ledger_book::minus;
 use ledger_book::plus;
 use longrun_calls::Plan;
-use longrun_calls::below;
-use longrun_calls::between;
-use longrun_calls::percent;
+use longrun_draws::below;
+use longrun_draws::between;
+use longrun_draws::percent;
 
 fn damage_receipt(seed: &mut u64, image: &mut Page, lot: u64) {
     let column = between(seed, OWNER, RECEIPT_COLUMNS_END - 1);

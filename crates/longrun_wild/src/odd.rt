@@ -19,12 +19,12 @@ use ledger_book::RECEIPTS;
 use ledger_book::SPARE_LENGTH;
 use ledger_book::minus;
 use ledger_book::plus;
-use longrun_calls::Request;
-use longrun_calls::below;
-use longrun_calls::beside;
-use longrun_calls::between;
-use longrun_calls::percent;
-use longrun_calls::word;
+use longrun_draws::Request;
+use longrun_draws::below;
+use longrun_draws::beside;
+use longrun_draws::between;
+use longrun_draws::percent;
+use longrun_draws::word;
 
 const EDGE_COUNT: usize = 28;
 

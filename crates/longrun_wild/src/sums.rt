@@ -14,7 +14,7 @@ use ledger_book::is_account;
 use ledger_book::page_cell;
 use ledger_book::plus;
 use ledger_book::set_page_cell;
-use longrun_calls::full_of;
+use longrun_draws::full_of;
 
 pub fn raise_cell(image: &mut Page, column: u64, row: u64, by: u64) {
     let value = plus(page_cell(image, column, row), by);

@@ -27,11 +27,11 @@ use ledger_book::product;
 use ledger_book::rest_payment;
 use ledger_book::set_page_cell;
 use ledger_book::share;
-use longrun_calls::below;
-use longrun_calls::between;
-use longrun_calls::full_of;
-use longrun_calls::price_edge;
-use longrun_calls::word;
+use longrun_draws::below;
+use longrun_draws::between;
+use longrun_draws::full_of;
+use longrun_draws::price_edge;
+use longrun_draws::word;
 
 // A value at the field's own limit or just beyond, which other fields of the receipt may set.
 pub fn limit_in_receipt(seed: &mut u64, image: &Page, lot: u64, column: u64) -> u64 {
