@@ -1,8 +1,10 @@
 // Where each field stands in an image (01 Image 1 to 4), in a call record (01 Calls 2) and in an answer (01 Answers 1 and 3).
 //
-// Nothing else in these crates says a length, a start or a size. A field is known by where it ends in its record: it starts where the
-// one before it ends. What a record, a table or a buffer takes follows. Of an image's and an entry's fields each is also a column of
-// the book, numbered in the same order.
+// No other file of the second ledger or of the long runs says a length, a start or a size. A field is known by where it ends in its
+// record; it starts where the one before it ends. The lengths of records and buffers and the starts of tables follow. The fields of an
+// image and of an entry are also columns of the book, in the same order.
+//
+// A field more is one line in each of three lists: where it ends, its column, and the ends by column. A table more is a `Table` besides.
 use crate::payments::minus;
 use crate::payments::plus;
 use crate::payments::product;
@@ -238,9 +240,9 @@ pub const WEALTH: u64 = ENTRY_COLUMNS_END;
 
 pub const COLUMNS: u64 = WEALTH + 1;
 
-// Where the field of each column ends in its record.
 const PLACED_COLUMNS: usize = ENTRY_COLUMNS_END as usize;
 
+// Where the field of each of these columns ends in its record.
 const ENDS: [u64; PLACED_COLUMNS] = [
     ACCOUNT_COUNT_END,
     RECEIPT_COUNT_END,
@@ -278,11 +280,11 @@ const ENDS: [u64; PLACED_COLUMNS] = [
 // ── Tables ──────────────────────────────────────────────────────────────────────────────────────
 
 // Records of one length, one behind another, and the column of their first field.
-pub struct Table {
-    pub first: u64,
-    pub start: u64,
-    pub length: u64,
-    pub records: u64,
+struct Table {
+    first: u64,
+    start: u64,
+    length: u64,
+    records: u64,
 }
 
 // The header is a table of one record.
@@ -333,7 +335,7 @@ fn table_of(column: u64) -> Table {
     if column < OWNER {
         return CONTRACT_TABLE;
     }
-    if column < LOT {
+    if column < RECEIPT_COLUMNS_END {
         return RECEIPT_TABLE;
     }
     ENTRY_TABLE

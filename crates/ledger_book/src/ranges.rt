@@ -1,7 +1,13 @@
-// The ranges that calls and images share (01 Image 15 and 17).
+// The ranges that calls and images share (01 Image 15 and 17), and the last kind, outcome and number that there are.
 use crate::places::ACCOUNTS;
 use crate::places::CONTRACTS;
 use crate::places::RECEIPTS;
+
+pub const LAST_KIND: u64 = 15;
+
+pub const LAST_OUTCOME: u64 = 15;
+
+pub const LAST_NUMBER: u64 = 13;
 
 pub const LAST_DAY: u64 = 30000;
 

@@ -197,7 +197,7 @@ fn lots_ok(book: &Book) -> bool {
 }
 
 // Takes what the lots hold out of what is frozen.
-fn thaw_lots(book: &mut Book) {
+fn subtract_held(book: &mut Book) {
     for lot in 1..ROWS {
         let buyer = cell(book, BUYER, lot);
         let fen = hold(book, lot);
@@ -205,8 +205,8 @@ fn thaw_lots(book: &mut Book) {
     }
 }
 
-// Whether that left nothing.
-fn is_thawed(book: &Book) -> bool {
+// Whether that leaves nothing, for every account.
+fn nothing_frozen(book: &Book) -> bool {
     let mut ok = true;
     for account in 1..ACCOUNTS + 1 {
         ok = ok & (cell(book, FROZEN, account) == 0);
@@ -230,6 +230,6 @@ pub fn is_valid(book: &mut Book) -> bool {
     if !lots_ok(book) {
         return false;
     }
-    thaw_lots(book);
-    is_thawed(book) & (cell(book, TOTAL, ZONE) == all_wealth(book))
+    subtract_held(book);
+    nothing_frozen(book) & (cell(book, TOTAL, ZONE) == all_wealth(book))
 }

@@ -119,7 +119,7 @@ fn end_listings(book: &mut Book) {
     }
 }
 
-// (01 Calls 25)
+// Listings and asks end with the day, and the next morning comes (01 Calls 25).
 pub fn day_close(book: &mut Book) {
     end_listings(book);
     for contract in 1..CONTRACTS + 1 {

@@ -6,6 +6,9 @@
 // The last line counts the differences.
 mod runs;
 
+use ledger_book::ACCOUNTS;
+use ledger_book::LAST_DAY;
+use ledger_book::RECEIPTS;
 use longrun_calls::EACH_CONTRACT;
 use longrun_calls::NO_OPENING;
 use longrun_calls::ONE_CONTRACT;
@@ -37,10 +40,10 @@ fn small_zones(tally: &mut Tally) {
 // All lots go through closes and quotes first, so that answers are full. The calls after that draw from all receipts and accounts in
 // one run, from half and a quarter of them in the other.
 fn long_answers(tally: &mut Tally) {
-    let mut all = plan(10140107109312335319, 12000, 128, 96, 12);
+    let mut all = plan(10140107109312335319, 12000, RECEIPTS, ACCOUNTS, 12);
     all.opening = ONE_CONTRACT;
     runs::run(all, tally);
-    let mut half = plan(6364136223846793005, 12000, 64, 24, 20);
+    let mut half = plan(6364136223846793005, 12000, RECEIPTS / 2, ACCOUNTS / 4, 20);
     half.opening = EACH_CONTRACT;
     runs::run(half, tally);
 }
@@ -48,7 +51,7 @@ fn long_answers(tally: &mut Tally) {
 // Money up to the limit, and the last days that a zone has.
 fn last_days(tally: &mut Tally) {
     let mut late = plan(12605985483714917081, 12000, 24, 6, 40);
-    late.day = 29850;
+    late.day = LAST_DAY - 150;
     late.opening = TO_LIMIT;
     runs::run(late, tally);
 }

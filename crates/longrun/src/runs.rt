@@ -21,7 +21,7 @@ use longrun_sides::filled;
 use longrun_wild::alter;
 use longrun_wild::make_wild;
 
-// Both sides start on a fresh image.
+// A fresh image on both sides, in buffers of this length.
 fn make_fresh(length: usize, image: &mut Page, second: &mut Page, tally: &mut Tally) {
     count_fresh(length, agree_on_fresh(length, image, second), tally);
 }

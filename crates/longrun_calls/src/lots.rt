@@ -174,7 +174,7 @@ fn invoice_or_confirm(seed: &mut u64, accounts: u64, image: &Page, lot: u64) -> 
 // ── All states ──────────────────────────────────────────────────────────────────────────────────
 
 // The lot's state, now and then another one: the call then comes out of turn.
-fn turn(seed: &mut u64, image: &Page, lot: u64) -> u64 {
+fn assumed_state(seed: &mut u64, image: &Page, lot: u64) -> u64 {
     if percent(seed, 5) {
         return below(seed, 8);
     }
@@ -183,7 +183,7 @@ fn turn(seed: &mut u64, image: &Page, lot: u64) -> u64 {
 
 // A call that takes the lot a step on, or moves the money that its next step asks for.
 pub fn step_lot(seed: &mut u64, accounts: u64, image: &Page, lot: u64) -> Request {
-    let state = turn(seed, image, lot);
+    let state = assumed_state(seed, image, lot);
     match state {
         0 => list_or_register(seed, accounts, image, lot),
         1 => bid_or_withdraw(seed, accounts, image, lot),

@@ -20,6 +20,7 @@ use crate::tally::counted;
 use crate::tally::of_contract;
 use crate::tally::pair;
 use ledger_book::CONTRACTS;
+use ledger_book::LAST_OUTCOME;
 use ledger_book::MOST_AMOUNT;
 use ledger_book::MOST_TOTAL;
 use ledger_book::minus;
@@ -111,7 +112,10 @@ fn numbers_row() {
 
 fn print_pairs(tally: &Tally) {
     line(b"calls driven: ", counted(tally, CALLS));
-    io::write_all(1, b"by kind (16: all above 15) and number returned\n");
+    io::write_all(
+        1,
+        b"by kind (the last row: all kinds above) and number returned\n",
+    );
     numbers_row();
     rows(tally, 0, KIND_ROWS, pair(0, 0), NUMBERS);
     line(
@@ -139,7 +143,7 @@ fn print_entries(tally: &Tally) {
         COUNTS_OF_CONTRACT,
     );
     io::write_all(1, b"entries by outcome\n");
-    rows(tally, 1, 16, plus(OUTCOMES, 1), 1);
+    rows(tally, 1, LAST_OUTCOME + 1, plus(OUTCOMES, 1), 1);
     line(b"most entries in an answer: ", counted(tally, MOST_ENTRIES));
 }
 

@@ -1,20 +1,23 @@
 // What all runs have reached, counted: one row of numbers, with these parts one behind another.
 use ledger_book::CONTRACTS;
+use ledger_book::LAST_KIND;
+use ledger_book::LAST_NUMBER;
+use ledger_book::LAST_OUTCOME;
 use ledger_book::plus;
 use ledger_book::product;
 
-// Calls by kind and number: a row for each kind, 0 among them, and one for all above 15.
-pub const KIND_ROWS: u64 = 17;
+// Calls by kind and number: a row for each kind, 0 among them, and one for all above the last.
+pub const KIND_ROWS: u64 = LAST_KIND + 2;
 
-pub const NUMBERS: u64 = 14;
+pub const NUMBERS: u64 = LAST_NUMBER + 1;
 
 const PAIRS: u64 = 0;
 
-// Entries by outcome, 1 to 15.
+// Entries by outcome, from 1 on.
 pub const OUTCOMES: u64 = PAIRS + KIND_ROWS * NUMBERS;
 
 // Of each contract: listings, bids, quotes, lots struck, and quotes that struck two lots or more, all accepted.
-const CONTRACT_COUNTS: u64 = OUTCOMES + 16;
+const CONTRACT_COUNTS: u64 = OUTCOMES + LAST_OUTCOME + 1;
 
 pub const LISTED: u64 = 0;
 

@@ -17,8 +17,8 @@ use ledger_book::page_cell;
 use ledger_book::plus;
 use ledger_book::product;
 
-// Prices of this contract are low, so that full payments lie below the deposit.
-const CHEAP_CONTRACT: u64 = 8;
+// Prices of the last contract are low, so that full payments lie below the deposit.
+const CHEAP_CONTRACT: u64 = CONTRACTS;
 
 // Mostly the party named.
 pub fn party(seed: &mut u64, accounts: u64, account: u64) -> u64 {

@@ -13,6 +13,7 @@ use ledger_book::CALL_KIND_END;
 use ledger_book::CALL_RECEIPT_END;
 use ledger_book::CALL_WEIGHT_END;
 use ledger_book::CALL_ZEROS_END;
+use ledger_book::LAST_NUMBER;
 use ledger_book::Page;
 use ledger_book::TOTAL;
 use ledger_book::ZONE;
@@ -120,7 +121,7 @@ pub fn drive(q: Request, image: &mut Page, second: &mut Page, answer: &mut Page)
     let of_ledger = lend_pages(false, q, second, &record, &mut other);
     let alike = same(image, second) & same(answer, &other);
     let untouched = left_alone(number, &before, image, answer);
-    let agree = (number == of_ledger) & (number <= 13) & alike & untouched;
+    let agree = (number == of_ledger) & (number <= LAST_NUMBER) & alike & untouched;
     if !agree {
         *second = *image;
     }

@@ -7,6 +7,7 @@ use ledger_book::DEPOSIT;
 use ledger_book::IMAGE_LENGTH;
 use ledger_book::LAST_DAY;
 use ledger_book::LAST_DUE;
+use ledger_book::LAST_KIND;
 use ledger_book::LEAST_WEIGHT;
 use ledger_book::MOST_AMOUNT;
 use ledger_book::MOST_BASIS;
@@ -35,7 +36,7 @@ const EDGES: [u64; EDGE_COUNT] = [
     MOST_DAYS,
     PRICE_STEP,
     CONTRACTS,
-    15,
+    LAST_KIND,
     ACCOUNTS,
     RECEIPTS,
     255,

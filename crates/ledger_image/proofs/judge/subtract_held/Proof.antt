@@ -1,7 +1,7 @@
 use borrow.Author.Needs.{needs}
 use Rattle.ledger_book.specs.Loops.{left}
-use Rattle.ledger_image.proofs.judge.thaw_lots.Statement.{statement}
-use Rattle.ledger_image.proofs.judge.thaw_lots.Tie as tie
+use Rattle.ledger_image.proofs.judge.subtract_held.Statement.{statement}
+use Rattle.ledger_image.proofs.judge.subtract_held.Tie as tie
 
 abbrev Inv-loop : tie.InvT-loop
 Inv-loop book₀ lot₀ book lot = Unit {0}
@@ -33,8 +33,8 @@ loop-again c = search needs
 returns : tie.Need-returns Inv-loop μ-loop
 returns c = search needs
 
-pub thaw-lots-spec : {M : Type 1} → statement M
-thaw-lots-spec =
+pub subtract-held-spec : {M : Type 1} → statement M
+subtract-held-spec =
     tie.close
     (tie.spec
     Inv-loop

@@ -1,7 +1,7 @@
 use borrow.Author.Needs.{needs}
 use Rattle.ledger_book.specs.Loops.{left}
-use Rattle.ledger_image.proofs.judge.is_thawed.Statement.{statement}
-use Rattle.ledger_image.proofs.judge.is_thawed.Tie as tie
+use Rattle.ledger_image.proofs.judge.nothing_frozen.Statement.{statement}
+use Rattle.ledger_image.proofs.judge.nothing_frozen.Tie as tie
 
 abbrev Inv-loop : tie.InvT-loop
 Inv-loop book ok₀ account₀ ok account = Unit {0}
@@ -27,7 +27,7 @@ loop-again c = search needs
 returns : tie.Need-returns Inv-loop μ-loop
 returns c = search needs
 
-pub is-thawed-spec : {M : Type 1} → statement M
-is-thawed-spec =
+pub nothing-frozen-spec : {M : Type 1} → statement M
+nothing-frozen-spec =
     tie.close
     (tie.spec Inv-loop μ-loop loop-holds cell-requires add-account loop-less loop-again returns)
