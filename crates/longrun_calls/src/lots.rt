@@ -27,6 +27,7 @@ use longrun_draws::price_beside;
 use longrun_draws::request_of;
 use longrun_draws::some_basis;
 use longrun_draws::some_contract;
+use longrun_draws::some_days;
 use longrun_draws::some_weight;
 
 // ── Receipts and listings ───────────────────────────────────────────────────────────────────────
@@ -42,7 +43,7 @@ fn list(seed: &mut u64, accounts: u64, image: &Page, lot: u64) -> Request {
     let mut q = request_of(4, party(seed, accounts, owner), lot, 0);
     let contract = some_contract(seed, image);
     q.contract = contract;
-    q.days = below(seed, 4);
+    q.days = some_days(seed);
     q.basis = some_basis(seed, contract);
     q
 }

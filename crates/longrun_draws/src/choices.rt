@@ -7,6 +7,7 @@ use ledger_book::CONTRACTS;
 use ledger_book::DAY;
 use ledger_book::LEAST_WEIGHT;
 use ledger_book::MOST_BASIS;
+use ledger_book::MOST_DAYS;
 use ledger_book::MOST_PRICE;
 use ledger_book::MOST_WEIGHT;
 use ledger_book::PRICE_STEP;
@@ -68,7 +69,7 @@ pub fn price_beside(seed: &mut u64, standing: u64) -> u64 {
     minus(plus(standing, steps(below(seed, 6))), PRICE_STEP)
 }
 
-// ── Basis and weight ────────────────────────────────────────────────────────────────────────────
+// ── Basis, days and weight ────────────────────────────────────────────────────────────────────────────
 
 // Now and then an end of the range or one beyond it, or far below 0.
 pub fn some_basis(seed: &mut u64, contract: u64) -> u64 {
@@ -86,6 +87,15 @@ pub fn some_basis(seed: &mut u64, contract: u64) -> u64 {
         return minus(below(seed, 80), 50);
     }
     minus(below(seed, 801), 400)
+}
+
+// Now and then one day too many.
+pub fn some_days(seed: &mut u64) -> u64 {
+    let draw = below(seed, 100);
+    if draw < 2 {
+        return MOST_DAYS + 1;
+    }
+    draw % (MOST_DAYS + 1)
 }
 
 pub fn some_weight(seed: &mut u64) -> u64 {

@@ -10,6 +10,7 @@ pub use choices::price_beside;
 pub use choices::price_edge;
 pub use choices::some_basis;
 pub use choices::some_contract;
+pub use choices::some_days;
 pub use choices::some_weight;
 pub use draws::below;
 pub use draws::beside;

@@ -12,9 +12,11 @@ use ledger_book::OWNER;
 use ledger_book::Page;
 use ledger_book::RECEIPT_COLUMNS_END;
 use ledger_book::RECEIPTS;
+use ledger_book::STATE;
 use ledger_book::TOTAL;
 use ledger_book::ZONE;
 use ledger_book::minus;
+use ledger_book::page_cell;
 use ledger_book::plus;
 use longrun_calls::Plan;
 use longrun_draws::below;
@@ -58,18 +60,24 @@ fn damage_zone(seed: &mut u64, image: &mut Page) {
     displace(seed, image, column, row, limit);
 }
 
-// Mostly a lot in use, now and then any, so that a receipt that is not registered gets a field too.
-fn some_lot(seed: &mut u64, receipts: u64) -> u64 {
+// Now and then any lot, so that a receipt that is not registered gets a field too; else of two in use the one in the later state, which
+// has more fields.
+fn some_lot(seed: &mut u64, receipts: u64, image: &Page) -> u64 {
+    let one = between(seed, 1, receipts);
+    let other = between(seed, 1, receipts);
     if percent(seed, 20) {
         return between(seed, 1, RECEIPTS);
     }
-    between(seed, 1, receipts)
+    if page_cell(image, STATE, one) > page_cell(image, STATE, other) {
+        return one;
+    }
+    other
 }
 
 // Puts one field out of place; the lot whose field it is, or the one that the next call may go to.
 pub fn damage(seed: &mut u64, image: &mut Page, plan: Plan) -> u64 {
     let draw = below(seed, 100);
-    let lot = some_lot(seed, plan.receipts);
+    let lot = some_lot(seed, plan.receipts, image);
     if draw < 60 {
         damage_receipt(seed, image, lot);
         return lot;
