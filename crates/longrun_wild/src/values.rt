@@ -11,6 +11,7 @@ use ledger_book::DAY;
 use ledger_book::DUE;
 use ledger_book::LAST_DAY;
 use ledger_book::LAST_DUE;
+use ledger_book::LEAST_WEIGHT;
 use ledger_book::MOST_TOTAL;
 use ledger_book::MOST_WEIGHT;
 use ledger_book::OWNER;
@@ -33,18 +34,27 @@ use longrun_draws::full_of;
 use longrun_draws::price_edge;
 use longrun_draws::word;
 
+// The first or the last of a range, or the number just outside it there.
+fn range_edge(seed: &mut u64, first: u64, last: u64) -> u64 {
+    let draw = below(seed, 4);
+    if draw < 2 {
+        return minus(plus(first, draw), 1);
+    }
+    plus(last, minus(draw, 2))
+}
+
 // A value at the field's own limit or just beyond, which other fields of the receipt may set.
 pub fn limit_in_receipt(seed: &mut u64, image: &Page, lot: u64, column: u64) -> u64 {
     let beyond = below(seed, 2);
     let full = full_of(image, lot);
     let confirmed = page_cell(image, CONFIRMED, lot);
     match column {
-        OWNER => plus(ACCOUNTS, beyond),
+        OWNER => range_edge(seed, 1, ACCOUNTS),
         SELLER => page_cell(image, BUYER, lot),
         BUYER => page_cell(image, SELLER, lot),
-        CONTRACT => plus(CONTRACTS, beyond),
-        DUE => plus(LAST_DUE, beyond),
-        WEIGHT => plus(MOST_WEIGHT, beyond),
+        CONTRACT => range_edge(seed, 1, CONTRACTS),
+        DUE => range_edge(seed, 1, LAST_DUE),
+        WEIGHT => range_edge(seed, LEAST_WEIGHT, MOST_WEIGHT),
         BASIS => minus(beyond, page_cell(image, PRICE, lot)),
         PRICE => price_edge(seed),
         PENDING => plus(minus(full, confirmed), beyond),
@@ -56,11 +66,10 @@ pub fn limit_in_receipt(seed: &mut u64, image: &Page, lot: u64, column: u64) -> 
 
 // The same outside receipts.
 pub fn limit_in_zone(seed: &mut u64, column: u64) -> u64 {
-    let beyond = below(seed, 2);
     match column {
-        DAY => plus(LAST_DAY, beyond),
+        DAY => range_edge(seed, 1, LAST_DAY),
         ASK => price_edge(seed),
-        _ => plus(MOST_TOTAL, beyond),
+        _ => plus(MOST_TOTAL, below(seed, 2)),
     }
 }
 
