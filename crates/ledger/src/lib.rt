@@ -1,60 +1,35 @@
-// A second ledger of the cotton receipt zone, for long runs beside the library. It is written from document 01
-// alone and shares no code with the library.
+// A second ledger of the cotton receipt zone, for long runs beside the library (01 Holding 6). It is written from document 01 alone;
+// of the library it uses nothing.
 //
 // It is built another way on purpose. The zone is a book of columns of numbers. Of an account it keeps one number, its wealth: free and
 // frozen money together. What is frozen is never moved: it is counted anew from the lots wherever it is asked for. A call's entries
-// stand in columns beside the lots that they are about. Each kind tests its own numbers, in rising order.
+// stand in columns beside the lots that they are about. The book is in `ledger_book`, the image in `ledger_image`, the tests of a call
+// in `ledger_numbers`, what a call does in `ledger_kinds`; here are the answer and the two entries.
 mod answers;
-mod bytes;
-mod closes;
-mod columns;
-mod holdings;
-mod images;
-mod kinds;
-mod numbers;
-mod payments;
-mod records;
 
-pub use bytes::Page;
-pub use bytes::field;
-pub use bytes::put_field;
-pub use columns::BASIS;
-pub use columns::BUYER;
-use columns::Book;
-pub use columns::CONFIRMED;
-pub use columns::CONTRACT;
-pub use columns::DUE;
-pub use columns::OWNER;
-pub use columns::PAID;
-pub use columns::PENDING;
-pub use columns::PRICE;
-pub use columns::RECEIPT_COLUMNS;
-pub use columns::SELLER;
-pub use columns::STATE;
-pub use columns::WEIGHT;
-pub use holdings::held_in_state;
-pub use images::account_at;
-pub use images::ask_at;
-pub use images::receipt_at;
-pub use images::size_of;
-pub use payments::DEPOSIT;
-pub use payments::full_payment;
-pub use payments::minus;
-pub use payments::plus;
-pub use payments::product;
-pub use payments::rest_payment;
-pub use payments::share;
+use ledger_book::ANSWER_LENGTH;
+use ledger_book::Book;
+use ledger_book::CALL_LENGTH;
+use ledger_book::DAY;
+use ledger_book::IMAGE_LENGTH;
+use ledger_book::ZONE;
+use ledger_book::empty_book;
+use ledger_book::read_call;
+use ledger_book::set_cell;
+use ledger_image::is_valid;
+use ledger_image::read_image;
+use ledger_image::write_image;
 
-// A call on an image ("Calls", "Answers and turned-down calls"): its number, with image and answer written as document 01 says.
+// A call on an image: its number, with image and answer written (01 Calls, Answers).
 pub fn call(image: &mut [u8], record: &[u8], answer: &mut [u8]) -> u64 {
-    if answer.len() < 1040 {
+    if answer.len() < ANSWER_LENGTH {
         return 1;
     }
-    let mut book: Book = [0; 2580];
+    let mut book: Book = empty_book();
     let number = judge(&mut book, image, record);
     if number == 0 {
-        kinds::perform(&mut book, records::read_call(record));
-        images::write_image(&book, image);
+        ledger_kinds::perform(&mut book, read_call(record));
+        write_image(&mut book, image);
         answers::accept(&book, answer);
     } else {
         answers::refuse(answer, number);
@@ -64,26 +39,26 @@ pub fn call(image: &mut [u8], record: &[u8], answer: &mut [u8]) -> u64 {
 
 // The number of a call whose answer buffer is long enough; the book then holds the image.
 fn judge(book: &mut Book, image: &[u8], record: &[u8]) -> u64 {
-    if image.len() != 5696 {
+    if image.len() != IMAGE_LENGTH {
         return 2;
     }
-    images::read_image(book, image);
-    if !images::is_valid(book, image) {
+    read_image(book, image);
+    if !is_valid(book) {
         return 2;
     }
-    if record.len() != 24 {
+    if record.len() != CALL_LENGTH {
         return 3;
     }
-    numbers::number(book, records::read_call(record))
+    ledger_numbers::number(book, read_call(record))
 }
 
 // A fresh zone: nothing in the book but day 1.
 pub fn fresh(image: &mut [u8]) -> u64 {
-    if image.len() != 5696 {
+    if image.len() != IMAGE_LENGTH {
         return 2;
     }
-    let mut book: Book = [0; 2580];
-    columns::set_cell(&mut book, columns::ZONE, columns::DAY, 1);
-    images::write_image(&book, image);
+    let mut book: Book = empty_book();
+    set_cell(&mut book, DAY, ZONE, 1);
+    write_image(&mut book, image);
     0
 }

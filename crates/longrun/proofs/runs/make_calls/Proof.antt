@@ -1,13 +1,13 @@
 use borrow.Author.Needs.{needs}
-use Prim.Native.Nat.{_≤_, _-_}
+use Rattle.ledger_book.specs.Loops.{left}
 use Rattle.longrun.proofs.runs.make_calls.Statement.{statement}
 use Rattle.longrun.proofs.runs.make_calls.Tie as tie
 
 abbrev Inv-loop : tie.InvT-loop
-Inv-loop plan image₀ second₀ tally₀ seed₀ calls k₀ image second tally seed k = k ≤ calls
+Inv-loop plan image₀ second₀ tally₀ seed₀ calls k₀ image second tally seed k = Unit {0}
 
 abbrev μ-loop : tie.MeasureT-loop
-μ-loop plan image₀ second₀ tally₀ seed₀ calls k₀ image second tally seed k = calls - k
+μ-loop plan image₀ second₀ tally₀ seed₀ calls k₀ image second tally seed k = left k
 
 loop-holds : tie.Need-loop-holds Inv-loop μ-loop
 loop-holds c = search needs

@@ -1,0 +1,68 @@
+// Money of a trade, in fen, from prices in yuan per tonne and weights in kilograms.
+
+// Deposit and penalty are one sum (01 Money 7).
+pub const DEPOSIT: u64 = 5000000;
+
+// Sums and differences go modulo 2^64. In a valid zone the ranges keep the true ones within 0 to 2^64 - 1, and an image with more free
+// money than a zone may hold is turned down before anything is summed.
+pub fn plus(x: u64, y: u64) -> u64 {
+    std::num::wrapping_add_u64(x, y)
+}
+
+pub fn minus(x: u64, y: u64) -> u64 {
+    std::num::wrapping_sub_u64(x, y)
+}
+
+// x × y of numbers below 2^32. A larger one is no price, weight or payment and gives 0.
+pub fn product(x: u64, y: u64) -> u64 {
+    if x > 4294967295 {
+        return 0;
+    }
+    if y > 4294967295 {
+        return 0;
+    }
+    x * y
+}
+
+// x × y div z; 0 where z is 0.
+pub fn share(x: u64, y: u64, z: u64) -> u64 {
+    if z == 0 {
+        return 0;
+    }
+    product(x, y) / z
+}
+
+// price + basis, 0 where that is below 1. `basis` has the 32 bits of the i32: from 2^31 on it stands for a number 2^32 lower.
+pub fn unit_price(price: u64, basis: u64) -> u64 {
+    if basis < 2147483648 {
+        return plus(price, basis);
+    }
+    let below = minus(4294967296, basis);
+    if price > below {
+        return minus(price, below);
+    }
+    0
+}
+
+// Yuan per tonne times kilograms is a tenth of a fen; half a fen is rounded up (01 Money 2).
+pub fn full_payment(price: u64, basis: u64, weight: u64) -> u64 {
+    plus(product(unit_price(price, basis), weight), 5) / 10
+}
+
+// Four fifths, rounded down (01 Money 3).
+pub fn first_payment(full: u64) -> u64 {
+    product(full, 80) / 100
+}
+
+pub fn rest_payment(full: u64) -> u64 {
+    minus(full, first_payment(full))
+}
+
+// What a confirmed invoice pays: its share of the rest, or all that is left of the rest if it is the last (01 Money 5 and 6).
+pub fn part_payment(full: u64, confirmed: u64, paid: u64, invoice: u64) -> u64 {
+    let rest = rest_payment(full);
+    if plus(confirmed, invoice) == full {
+        return minus(rest, paid);
+    }
+    share(rest, invoice, full)
+}

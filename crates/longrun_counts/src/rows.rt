@@ -1,0 +1,195 @@
+// The tables that the program writes.
+use crate::tally::CALLS;
+use crate::tally::COUNTS_OF_CONTRACT;
+use crate::tally::DIFFERENCES;
+use crate::tally::FRESH;
+use crate::tally::INVOICE_AMOUNT;
+use crate::tally::KIND_ROWS;
+use crate::tally::MOST_ENTRIES;
+use crate::tally::NUMBERS;
+use crate::tally::OUTCOMES;
+use crate::tally::PAY_IN_AMOUNT;
+use crate::tally::REFUSED_IMAGES;
+use crate::tally::TAKE_OUT_AMOUNT;
+use crate::tally::TOTAL_AFTER;
+use crate::tally::TOTAL_BEFORE;
+use crate::tally::Tally;
+use crate::tally::VALID_IMAGES;
+use crate::tally::at_limit;
+use crate::tally::counted;
+use crate::tally::of_contract;
+use crate::tally::pair;
+use ledger_book::CONTRACTS;
+use ledger_book::LAST_OUTCOME;
+use ledger_book::MOST_AMOUNT;
+use ledger_book::MOST_TOTAL;
+use ledger_book::minus;
+use ledger_book::plus;
+use ledger_book::product;
+use ledger_book::within;
+
+// ── Lines and rows ──────────────────────────────────────────────────────────────────────────────
+
+pub fn line(words: &[u8], value: u64) {
+    io::write_all(1, words);
+    io::print_decimal(1, value);
+    io::write_all(1, b"\n");
+}
+
+// A number, to the right in a column of seven.
+fn aligned(value: u64) {
+    let mut bound: u64 = 1000000;
+    while bound > 1 {
+        if value < bound {
+            io::write_all(1, b" ");
+        }
+        bound = bound / 10;
+    }
+    io::print_decimal(1, value);
+}
+
+// A row of counts from `place` on, behind its name.
+fn row(tally: &Tally, name: u64, place: u64, width: u64) {
+    aligned(name);
+    for k in 0..width {
+        aligned(counted(tally, plus(place, k)));
+    }
+    io::write_all(1, b"\n");
+}
+
+// Rows one behind another, named from `first` on.
+fn rows(tally: &Tally, first: u64, end: u64, place: u64, width: u64) {
+    for name in first..end {
+        let from = plus(place, product(minus(name, first), width));
+        row(tally, name, from, width);
+    }
+}
+
+// ── Kinds and numbers ───────────────────────────────────────────────────────────────────────────
+
+// Whether a call of this kind can return the number: document 01's table of numbers (01 Answers 12 to 24), with the kinds whose brackets
+// are empty or have no receipt left out (01 Calls 4 to 25).
+fn is_possible(kind: u64, number: u64) -> bool {
+    let has_lot = within(kind, 3, 14) & (kind != 9) & (kind != 11);
+    match number {
+        0 => within(kind, 1, 15),
+        1 => true,
+        2 => true,
+        3 => true,
+        4 => within(kind, 1, 14) & (kind != 11),
+        5 => (kind == 11) | (kind == 15),
+        6 => has_lot,
+        7 => has_lot & (kind != 3),
+        8 => kind == 6,
+        9 => kind == 7,
+        10 => within(kind, 6, 7),
+        11 => (kind == 2) | within(kind, 6, 7),
+        12 => kind == 1,
+        _ => kind == 13,
+    }
+}
+
+// How many pairs are against expectation: possible and not reached, or else reached and not possible.
+fn unexpected_pairs(tally: &Tally, possible: bool) -> u64 {
+    let mut found: u64 = 0;
+    for k in 0..KIND_ROWS * NUMBERS {
+        let reached = counted(tally, pair(0, k)) != 0;
+        if (is_possible(k / NUMBERS, k % NUMBERS) == possible) & (reached != possible) {
+            found = plus(found, 1);
+        }
+    }
+    found
+}
+
+// The numbers that a table of pairs has at its head.
+fn numbers_row() {
+    io::write_all(1, b"       ");
+    for number in 0..NUMBERS {
+        aligned(number);
+    }
+    io::write_all(1, b"\n");
+}
+
+fn print_pairs(tally: &Tally) {
+    line(b"calls driven: ", counted(tally, CALLS));
+    io::write_all(
+        1,
+        b"by kind (the last row: all kinds above) and number returned\n",
+    );
+    numbers_row();
+    rows(tally, 0, KIND_ROWS, pair(0, 0), NUMBERS);
+    line(
+        b"pairs that document 01 allows and no call reached: ",
+        unexpected_pairs(tally, true),
+    );
+    line(
+        b"pairs that it rules out and a call reached: ",
+        unexpected_pairs(tally, false),
+    );
+}
+
+// ── Contracts and entries ───────────────────────────────────────────────────────────────────────
+
+fn print_entries(tally: &Tally) {
+    io::write_all(
+        1,
+        b"contracts: listings, bids, quotes, lots struck, quotes that struck two or more\n",
+    );
+    rows(
+        tally,
+        1,
+        CONTRACTS + 1,
+        of_contract(1, 0),
+        COUNTS_OF_CONTRACT,
+    );
+    io::write_all(1, b"entries by outcome\n");
+    rows(tally, 1, LAST_OUTCOME + 1, plus(OUTCOMES, 1), 1);
+    line(b"most entries in an answer: ", counted(tally, MOST_ENTRIES));
+}
+
+// ── Limits ──────────────────────────────────────────────────────────────────────────────────────
+
+// The number before a limit, the limit and the next: calls, those accepted, those refused by the limit's number.
+fn limit_rows(tally: &Tally, limit: u64, value: u64) {
+    for step in 0..3u64 {
+        let place = at_limit(limit, step);
+        io::write_all(1, b"  ");
+        io::print_decimal(1, minus(plus(value, step), 1));
+        row(tally, counted(tally, place), plus(place, 1), 2);
+    }
+}
+
+fn print_limits(tally: &Tally) {
+    io::write_all(1, b"amount of a pay-in: calls, accepted, refused by 4\n");
+    limit_rows(tally, PAY_IN_AMOUNT, MOST_AMOUNT);
+    io::write_all(1, b"amount of a take-out: calls, accepted, refused by 4\n");
+    limit_rows(tally, TAKE_OUT_AMOUNT, MOST_AMOUNT);
+    io::write_all(1, b"amount of an invoice: calls, accepted, refused by 4\n");
+    limit_rows(tally, INVOICE_AMOUNT, MOST_AMOUNT);
+    io::write_all(
+        1,
+        b"total that a pay-in makes: calls, accepted, refused by 12\n",
+    );
+    limit_rows(tally, TOTAL_AFTER, MOST_TOTAL);
+    io::write_all(1, b"total of an image: calls, accepted, refused by 2\n");
+    limit_rows(tally, TOTAL_BEFORE, MOST_TOTAL);
+}
+
+// ── All ─────────────────────────────────────────────────────────────────────────────────────────
+
+pub fn print_all(tally: &Tally) {
+    print_pairs(tally);
+    print_entries(tally);
+    print_limits(tally);
+    line(
+        b"altered images refused by 2: ",
+        counted(tally, REFUSED_IMAGES),
+    );
+    line(
+        b"altered images still valid: ",
+        counted(tally, VALID_IMAGES),
+    );
+    line(b"buffers given to the fresh entry: ", counted(tally, FRESH));
+    io::print_decimal(1, counted(tally, DIFFERENCES));
+    io::write_all(1, b" differences\n");
+}

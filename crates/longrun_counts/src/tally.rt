@@ -1,0 +1,110 @@
+// What all runs have reached, counted: one row of numbers, with these parts one behind another.
+use ledger_book::CONTRACTS;
+use ledger_book::LAST_KIND;
+use ledger_book::LAST_NUMBER;
+use ledger_book::LAST_OUTCOME;
+use ledger_book::plus;
+use ledger_book::product;
+
+// Calls by kind and number: a row for each kind, 0 among them, and one for all above the last.
+pub const KIND_ROWS: u64 = LAST_KIND + 2;
+
+pub const NUMBERS: u64 = LAST_NUMBER + 1;
+
+const PAIRS: u64 = 0;
+
+// Entries by outcome, from 1 on.
+pub const OUTCOMES: u64 = PAIRS + KIND_ROWS * NUMBERS;
+
+// Of each contract: listings, bids, quotes, lots struck, and quotes that struck two lots or more, all accepted.
+const CONTRACT_COUNTS: u64 = OUTCOMES + LAST_OUTCOME + 1;
+
+pub const LISTED: u64 = 0;
+
+pub const BID_ON: u64 = 1;
+
+pub const QUOTED: u64 = 2;
+
+pub const STRUCK: u64 = 3;
+
+pub const SEVERAL_STRUCK: u64 = 4;
+
+pub const COUNTS_OF_CONTRACT: u64 = 5;
+
+// Of each limit, for the number before it, itself and the next: calls, those accepted, those refused by the limit's number.
+const LIMITS: u64 = CONTRACT_COUNTS + (CONTRACTS + 1) * COUNTS_OF_CONTRACT;
+
+pub const PAY_IN_AMOUNT: u64 = 0;
+
+pub const TAKE_OUT_AMOUNT: u64 = 1;
+
+pub const INVOICE_AMOUNT: u64 = 2;
+
+pub const TOTAL_AFTER: u64 = 3;
+
+pub const TOTAL_BEFORE: u64 = 4;
+
+const LIMIT_COUNT: u64 = 5;
+
+// Single counts.
+pub const CALLS: u64 = LIMITS + LIMIT_COUNT * 9;
+
+pub const DIFFERENCES: u64 = CALLS + 1;
+
+pub const MOST_ENTRIES: u64 = DIFFERENCES + 1;
+
+// Altered images: refused by number 2, and still valid.
+pub const REFUSED_IMAGES: u64 = MOST_ENTRIES + 1;
+
+pub const VALID_IMAGES: u64 = REFUSED_IMAGES + 1;
+
+// Buffers given to the fresh entry.
+pub const FRESH: u64 = VALID_IMAGES + 1;
+
+const TALLY_LENGTH: usize = (FRESH + 1) as usize;
+
+pub type Tally = [u64; TALLY_LENGTH];
+
+pub fn empty_tally() -> Tally {
+    [0; TALLY_LENGTH]
+}
+
+// ── Where a count stands ────────────────────────────────────────────────────────────────────────
+
+pub fn pair(kind: u64, number: u64) -> u64 {
+    plus(PAIRS, plus(product(kind, NUMBERS), number))
+}
+
+pub fn of_contract(contract: u64, what: u64) -> u64 {
+    plus(
+        CONTRACT_COUNTS,
+        plus(product(contract, COUNTS_OF_CONTRACT), what),
+    )
+}
+
+// The calls at a limit's `step`: 0 before it, 1 at it, 2 behind it. Those accepted and those refused come next.
+pub fn at_limit(limit: u64, step: u64) -> u64 {
+    plus(LIMITS, product(3, plus(product(3, limit), step)))
+}
+
+// ── Counting ────────────────────────────────────────────────────────────────────────────────────
+
+pub fn counted(tally: &Tally, place: u64) -> u64 {
+    let k = place as usize;
+    if k < TALLY_LENGTH {
+        return tally[k];
+    }
+    0
+}
+
+pub fn set(tally: &mut Tally, place: u64, value: u64) {
+    let k = place as usize;
+    if k < TALLY_LENGTH {
+        tally[k] = value;
+    }
+}
+
+pub fn add(tally: &mut Tally, place: u64, more: u64) {
+    let value = plus(counted(tally, place), more);
+    set(tally, place, value);
+}

@@ -1,0 +1,96 @@
+// Another value for a field.
+use crate::odd::edge;
+use ledger_book::ACCOUNTS;
+use ledger_book::ASK;
+use ledger_book::BASIS;
+use ledger_book::BUYER;
+use ledger_book::CONFIRMED;
+use ledger_book::CONTRACT;
+use ledger_book::CONTRACTS;
+use ledger_book::DAY;
+use ledger_book::DUE;
+use ledger_book::LAST_DAY;
+use ledger_book::LAST_DUE;
+use ledger_book::LEAST_WEIGHT;
+use ledger_book::MOST_TOTAL;
+use ledger_book::MOST_WEIGHT;
+use ledger_book::OWNER;
+use ledger_book::PAID;
+use ledger_book::PENDING;
+use ledger_book::PRICE;
+use ledger_book::Page;
+use ledger_book::SELLER;
+use ledger_book::WEIGHT;
+use ledger_book::minus;
+use ledger_book::page_cell;
+use ledger_book::plus;
+use ledger_book::product;
+use ledger_book::rest_payment;
+use ledger_book::set_page_cell;
+use ledger_book::share;
+use longrun_draws::below;
+use longrun_draws::between;
+use longrun_draws::full_of;
+use longrun_draws::price_edge;
+use longrun_draws::word;
+
+// The first or the last of a range, or the number just outside it there.
+fn range_edge(seed: &mut u64, first: u64, last: u64) -> u64 {
+    let draw = below(seed, 4);
+    if draw < 2 {
+        return minus(plus(first, draw), 1);
+    }
+    plus(last, minus(draw, 2))
+}
+
+// A value at the field's own limit or just beyond, which other fields of the receipt may set.
+pub fn limit_in_receipt(seed: &mut u64, image: &Page, lot: u64, column: u64) -> u64 {
+    let beyond = below(seed, 2);
+    let full = full_of(image, lot);
+    let confirmed = page_cell(image, CONFIRMED, lot);
+    match column {
+        OWNER => range_edge(seed, 1, ACCOUNTS),
+        SELLER => page_cell(image, BUYER, lot),
+        BUYER => page_cell(image, SELLER, lot),
+        CONTRACT => range_edge(seed, 1, CONTRACTS),
+        DUE => range_edge(seed, 1, LAST_DUE),
+        WEIGHT => range_edge(seed, LEAST_WEIGHT, MOST_WEIGHT),
+        BASIS => minus(beyond, page_cell(image, PRICE, lot)),
+        PRICE => price_edge(seed),
+        PENDING => plus(minus(full, confirmed), beyond),
+        CONFIRMED => minus(plus(full, beyond), plus(page_cell(image, PENDING, lot), 1)),
+        PAID => plus(share(rest_payment(full), confirmed, full), beyond),
+        _ => below(seed, 9),
+    }
+}
+
+// The same outside receipts.
+pub fn limit_in_zone(seed: &mut u64, column: u64) -> u64 {
+    match column {
+        DAY => range_edge(seed, 1, LAST_DAY),
+        ASK => price_edge(seed),
+        _ => plus(MOST_TOTAL, below(seed, 2)),
+    }
+}
+
+fn other_value(seed: &mut u64, old: u64, limit: u64) -> u64 {
+    let draw = below(seed, 8);
+    match draw {
+        0 => plus(old, 1),
+        1 => minus(old, 1),
+        2 => plus(old, product(5, between(seed, 1, 3))),
+        3 => edge(seed),
+        4 => word(seed),
+        _ => limit,
+    }
+}
+
+// Puts another value into the field; what was added, modulo 2^64.
+pub fn displace(seed: &mut u64, image: &mut Page, column: u64, row: u64, limit: u64) -> u64 {
+    let old = page_cell(image, column, row);
+    set_page_cell(image, column, row, other_value(seed, old, limit));
+    if page_cell(image, column, row) == old {
+        set_page_cell(image, column, row, plus(old, 1));
+    }
+    minus(page_cell(image, column, row), old)
+}
