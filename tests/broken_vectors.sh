@@ -2,25 +2,10 @@
 # Broken copies of the vectors: each fault must be told by every program that reads them.
 # Usage: tests/broken_vectors.sh VECTORS HISTORY STACK, the three programs. The last line is 'N passed, M failed'.
 # shellcheck disable=SC2016 # a $ in an edit is sed's
-set -u
-here=$(cd "$(dirname "$0")/.." && pwd)
+# shellcheck source=tests/counted.sh
+. "$(dirname "$0")/counted.sh"
 vectors=$(realpath "$1") history=$(realpath "$2") stack=$(realpath "$3")
-work=$(mktemp -d)
-trap 'rm -rf "$work"' EXIT
 cd "$work" || exit 2
-passed=0 failed=0
-
-# holds NAME COMMAND..: the command succeeds
-holds() {
-    local name=$1
-    shift
-    if "$@"; then
-        passed=$((passed + 1))
-    else
-        failed=$((failed + 1))
-        echo "failed: $name"
-    fi
-}
 
 # few lines of each kind: three calls of a run, an image whose call changes it and one with another length
 mkdir whole broken

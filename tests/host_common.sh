@@ -1,27 +1,12 @@
 # shellcheck shell=bash disable=SC2034
-# What the tests of the host program share: a folder of their own, and counted checks.
-set -u
-here=$(cd "$(dirname "$0")/.." && pwd)
+# What the tests of the host program share: the program in a folder of their own, and what they ask of it.
+# shellcheck source=tests/counted.sh
+. "$(dirname "$0")/counted.sh"
 image_length=$(sed -n 's/^#define CRZ_IMAGE_LENGTH //p' "$here/include/crz.h")
-work=$(mktemp -d)
-trap 'rm -rf "$work"' EXIT
 chmod 755 "$work"
 cp "$1" "$work/crz" # other users may not reach the place where it was built
 crz=$work/crz
 cd "$work" || exit 2
-passed=0 failed=0
-
-# holds NAME COMMAND..: the command succeeds
-holds() {
-    local name=$1
-    shift
-    if "$@"; then
-        passed=$((passed + 1))
-    else
-        failed=$((failed + 1))
-        echo "failed: $name"
-    fi
-}
 
 # ends STATUS TEXT ARGUMENTS..: the program ends with the status and has said the text
 ends() {
