@@ -189,39 +189,25 @@ pub fn record_of(r: Receipt) -> Record
     let owner = r.owner;
     let weight = r.weight;
     let lot = r.lot;
+    let none = no_invoices();
     match lot {
-        Lot::Idle => flat_record(
-            owner,
-            weight,
-            STATE_IDLE,
-            no_listing(0),
-            no_bid(0),
-            0,
-            no_invoices(),
-        ),
-        Lot::Listed(l) => flat_record(owner, weight, STATE_LISTED, l, no_bid(0), 0, no_invoices()),
-        Lot::BidStands(l, b) => flat_record(
-            owner,
-            weight,
-            STATE_BID_STANDS,
-            l,
-            b,
-            0,
-            no_invoices(),
-        ),
-        Lot::Struck(t) => trade_record(owner, weight, STATE_STRUCK, t, no_invoices()),
-        Lot::Lodged(t) => trade_record(owner, weight, STATE_LODGED, t, no_invoices()),
-        Lot::Settled(t) => trade_record(owner, weight, STATE_SETTLED, t, no_invoices()),
+        Lot::Idle => flat_record(owner, weight, STATE_IDLE, no_listing(0), no_bid(0), 0, none),
+        Lot::Listed(l) => flat_record(owner, weight, STATE_LISTED, l, no_bid(0), 0, none),
+        Lot::BidStands(l, b) => flat_record(owner, weight, STATE_BID_STANDS, l, b, 0, none),
+        Lot::Struck(t) => trade_record(owner, weight, STATE_STRUCK, t, none),
+        Lot::Lodged(t) => trade_record(owner, weight, STATE_LODGED, t, none),
+        Lot::Settled(t) => trade_record(owner, weight, STATE_SETTLED, t, none),
         Lot::FirstPaid(t, i) => trade_record(owner, weight, STATE_FIRST_PAID, t, i),
         Lot::PenaltyDue { seller, buyer, due } => {
+            let l = no_listing(seller);
             flat_record(
                 owner,
                 weight,
                 STATE_PENALTY_DUE,
-                no_listing(seller),
+                l,
                 no_bid(buyer),
                 due,
-                no_invoices(),
+                none,
             )
         }
     }

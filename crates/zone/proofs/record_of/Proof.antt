@@ -4,6 +4,9 @@ use borrow.Author.Needs.{needs}
 use Rattle.zone.proofs.record_of.Statement.{statement}
 use Rattle.zone.proofs.record_of.Tie as tie
 
+no-invoices-requires : tie.Need-no-invoices-requires
+no-invoices-requires c κs = search needs
+
 enum-told : tie.Need-enum-told
 enum-told c = search needs
 
@@ -12,9 +15,6 @@ no-listing-requires c κs = search needs
 
 no-bid-requires : tie.Need-no-bid-requires
 no-bid-requires c κs = search needs
-
-no-invoices-requires : tie.Need-no-invoices-requires
-no-invoices-requires c κs = search needs
 
 flat-record-requires : tie.Need-flat-record-requires
 flat-record-requires c κs = search needs
@@ -25,17 +25,11 @@ enum-known-lot c = search needs
 no-bid-requires-2 : tie.Need-no-bid-requires-2
 no-bid-requires-2 c κs = search needs
 
-no-invoices-requires-2 : tie.Need-no-invoices-requires-2
-no-invoices-requires-2 c κs = search needs
-
 flat-record-requires-2 : tie.Need-flat-record-requires-2
 flat-record-requires-2 c κs = search needs
 
 enum-known-lot-2 : tie.Need-enum-known-lot-2
 enum-known-lot-2 c = search needs
-
-no-invoices-requires-3 : tie.Need-no-invoices-requires-3
-no-invoices-requires-3 c κs = search needs
 
 flat-record-requires-3 : tie.Need-flat-record-requires-3
 flat-record-requires-3 c κs = search needs
@@ -43,26 +37,17 @@ flat-record-requires-3 c κs = search needs
 enum-known-lot-3 : tie.Need-enum-known-lot-3
 enum-known-lot-3 c = search needs
 
-no-invoices-requires-4 : tie.Need-no-invoices-requires-4
-no-invoices-requires-4 c κs = search needs
-
 trade-record-requires : tie.Need-trade-record-requires
 trade-record-requires c κs = search needs
 
 enum-known-lot-4 : tie.Need-enum-known-lot-4
 enum-known-lot-4 c = search needs
 
-no-invoices-requires-5 : tie.Need-no-invoices-requires-5
-no-invoices-requires-5 c κs = search needs
-
 trade-record-requires-2 : tie.Need-trade-record-requires-2
 trade-record-requires-2 c κs = search needs
 
 enum-known-lot-5 : tie.Need-enum-known-lot-5
 enum-known-lot-5 c = search needs
-
-no-invoices-requires-6 : tie.Need-no-invoices-requires-6
-no-invoices-requires-6 c κs = search needs
 
 trade-record-requires-3 : tie.Need-trade-record-requires-3
 trade-record-requires-3 c κs = search needs
@@ -82,35 +67,32 @@ no-listing-requires-2 c κs = search needs
 no-bid-requires-3 : tie.Need-no-bid-requires-3
 no-bid-requires-3 c κs = search needs
 
-no-invoices-requires-7 : tie.Need-no-invoices-requires-7
-no-invoices-requires-7 c κs = search needs
-
 flat-record-requires-4 : tie.Need-flat-record-requires-4
 flat-record-requires-4 c κs = search needs
 
 returns : tie.Need-returns
 unfolding recordOf
-returns c = rw (c .flat-record .ensures, c .before .before .before .no-listing .ensures, c .before .before .no-bid .ensures, c .before .no-invoices .ensures, c .before .before .before .before .enum-told .given .1)
+returns c = rw (c .flat-record .ensures, c .before .before .no-listing .ensures, c .before .no-bid .ensures, c .before .before .before .before .before .no-invoices .ensures, c .before .before .before .enum-told .given .1)
 
 returns-2 : tie.Need-returns-2
 unfolding recordOf
-returns-2 c = rw (c .flat-record2 .ensures, c .before .before .no-bid2 .ensures, c .before .no-invoices2 .ensures, c .before .before .before .before .lot .given .1)
+returns-2 c = rw (c .flat-record2 .ensures, c .before .no-bid2 .ensures, c .before .before .before .before .before .no-invoices .ensures, c .before .before .before .lot .given .1)
 
 returns-3 : tie.Need-returns-3
 unfolding recordOf
-returns-3 c = rw (c .flat-record3 .ensures, c .before .no-invoices3 .ensures, c .before .before .before .lot2 .given .1)
+returns-3 c = rw (c .flat-record3 .ensures, c .before .before .before .before .no-invoices .ensures, c .before .before .lot2 .given .1)
 
 returns-4 : tie.Need-returns-4
 unfolding recordOf
-returns-4 c = rw (c .trade-record .ensures, c .before .no-invoices4 .ensures, c .before .before .before .lot3 .given .1)
+returns-4 c = rw (c .trade-record .ensures, c .before .before .before .before .no-invoices .ensures, c .before .before .lot3 .given .1)
 
 returns-5 : tie.Need-returns-5
 unfolding recordOf
-returns-5 c = rw (c .trade-record2 .ensures, c .before .no-invoices5 .ensures, c .before .before .before .lot4 .given .1)
+returns-5 c = rw (c .trade-record2 .ensures, c .before .before .before .before .no-invoices .ensures, c .before .before .lot4 .given .1)
 
 returns-6 : tie.Need-returns-6
 unfolding recordOf
-returns-6 c = rw (c .trade-record3 .ensures, c .before .no-invoices6 .ensures, c .before .before .before .lot5 .given .1)
+returns-6 c = rw (c .trade-record3 .ensures, c .before .before .before .before .no-invoices .ensures, c .before .before .lot5 .given .1)
 
 returns-7 : tie.Need-returns-7
 unfolding recordOf
@@ -118,39 +100,33 @@ returns-7 c = rw (c .trade-record4 .ensures, c .before .before .lot6 .given .1)
 
 returns-8 : tie.Need-returns-8
 unfolding recordOf
-returns-8 c = rw (c .flat-record4 .ensures, c .before .before .before .no-listing2 .ensures, c .before .before .no-bid3 .ensures, c .before .no-invoices7 .ensures, c .before .before .before .before .before .lot7 .given .1)
+returns-8 c = rw (c .flat-record4 .ensures, c .before .before .no-listing2 .ensures, c .before .no-bid3 .ensures, c .before .before .before .before .before .before .no-invoices .ensures, c .before .before .before .before .lot7 .given .1)
 
 pub record-of-spec : {M : Type 1} → statement M
 record-of-spec =
     tie.close
     (tie.spec
+    no-invoices-requires
     enum-told
     no-listing-requires
     no-bid-requires
-    no-invoices-requires
     flat-record-requires
     enum-known-lot
     no-bid-requires-2
-    no-invoices-requires-2
     flat-record-requires-2
     enum-known-lot-2
-    no-invoices-requires-3
     flat-record-requires-3
     enum-known-lot-3
-    no-invoices-requires-4
     trade-record-requires
     enum-known-lot-4
-    no-invoices-requires-5
     trade-record-requires-2
     enum-known-lot-5
-    no-invoices-requires-6
     trade-record-requires-3
     enum-known-lot-6
     trade-record-requires-4
     enum-known-lot-7
     no-listing-requires-2
     no-bid-requires-3
-    no-invoices-requires-7
     flat-record-requires-4
     returns
     returns-2
