@@ -12,6 +12,7 @@ use Rattle.units.specs.Ranges.{receiptCount}
 use Rattle.zone.specs.declared.Zone.{Zone}
 use Rattle.rules.specs.declared.Call.{Call}
 use Rattle.rules.specs.declared.Entry.{Entry}
+use Rattle.image.specs.Layout.{phaseByte}
 use Rattle.image.specs.Table.{table, tableBytes, runAt}
 
 -- ── Places and lengths ─────────────────────────────────────────────────────────────────────────
@@ -123,7 +124,7 @@ entryBytes e = e .lot ∷ e .outcome ∷ e .from ∷ e .to ∷ leBytes 4 (e .num
 
 -- number 0, the phase after the call, how many entries, where they start, the total after the call
 unfoldable pub headerOf : Bool → ℕ → ℕ → List ℕ
-headerOf afternoon count total = 0 ∷ cond afternoon 1 0 ∷ leBytes 2 count ++ leBytes 4 answerHeader ++ leBytes 8 total
+headerOf afternoon count total = 0 ∷ phaseByte afternoon ∷ leBytes 2 count ++ leBytes 4 answerHeader ++ leBytes 8 total
 
 -- header and entries
 unfoldable pub acceptedBytes : Zone → List Entry → List ℕ

@@ -10,11 +10,11 @@ use Rattle.units.specs.Ranges.{accountCount, receiptCount}
 use Rattle.zone.specs.declared.Zone.{Zone}
 use Rattle.zone.specs.Valid.{freshZone}
 use Rattle.rules.specs.declared.Call.{Call}
-use Rattle.rules.specs.View.{freeAt, frozenAt, receiptAt}
+use Rattle.rules.specs.View.{freeOf, frozenOf, receiptOfNumber}
 use Rattle.image.specs.Image.{validImage, decode, encode}
 use Rattle.answers.specs.Buffers.{callIn, entriesIn}
 use Rattle.crz.specs.Returned.{Returned}
-use Rattle.claims.specs.History.{Reply, refusedWith, acceptedWith, history, heldOver, Exact, belongs, EachStrikeFair}
+use Rattle.claims.specs.History.{Reply, refusedWith, acceptedWith, history, heldOver, Exact, belongs, EachStrikeOwnAct}
 
 -- ── A list of calls, the newest first, and the image after it ──────────────────────────────────
 
@@ -49,15 +49,15 @@ fed x = (callIn (x .call), replyOf (x .number) (x .answer))
 pub record Holds (list : List (Call × Reply)) (z : Zone) : Type 0 where
   -- the books balance for every account: what it has, took out and passed on is what it paid in and was passed
   pub books : (x : ℕ) → 1 ≤ x → x ≤ accountCount →
-      freeAt (z .accounts) x .0 + frozenAt (z .accounts) x .0 + history list .takeOuts x + history list .sent x ≡ history list .payIns x + history list .got x
+      freeOf (z .accounts) x .0 + frozenOf (z .accounts) x .0 + history list .takeOuts x + history list .sent x ≡ history list .payIns x + history list .got x
   -- frozen money is what the history table holds
-  pub frozen : (x : ℕ) → 1 ≤ x → x ≤ accountCount → frozenAt (z .accounts) x .0 ≡ heldOver x receiptCount 1 (history list)
+  pub frozen : (x : ℕ) → 1 ≤ x → x ≤ accountCount → frozenOf (z .accounts) x .0 ≡ heldOver x receiptCount 1 (history list)
   -- and the table holds it exactly: of no lot was more paid than settled
   pub exact : (k : ℕ) → 1 ≤ k → k ≤ receiptCount → Exact (history list .lots k)
   -- every receipt belongs to its latest settled buyer or its registrant
-  pub owners : (k : ℕ) → 1 ≤ k → k ≤ receiptCount → receiptAt (z .receipts) k .owner ≡ belongs (history list .lots k)
+  pub owners : (k : ℕ) → 1 ≤ k → k ≤ receiptCount → receiptOfNumber (z .receipts) k .owner ≡ belongs (history list .lots k)
   -- every struck buyer made that call or placed the standing bid that is the lot's last entry before it
-  pub strikes : EachStrikeFair list
+  pub strikes : EachStrikeOwnAct list
 
 -- ── The claims ─────────────────────────────────────────────────────────────────────────────────
 

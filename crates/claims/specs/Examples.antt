@@ -9,7 +9,7 @@ use Rattle.zone.specs.Record.{recordOf}
 use Rattle.zone.specs.Valid.{freshZone}
 use Rattle.rules.specs.declared.Call.{Call}
 use Rattle.rules.specs.Tables.{nth}
-use Rattle.rules.specs.View.{freeAt, receiptAt, recordAt}
+use Rattle.rules.specs.View.{freeOf, receiptOfNumber, recordOfReceipt}
 use Rattle.claims.specs.History.{Reply, refusedWith}
 use Rattle.claims.specs.Replay.{replyTo, replay, zoneAfter}
 use Rattle.claims.specs.Words.{payIn, registers, lists, bids, bidsMarket, quote, lodges, morningClose, firstPaid, invoices, confirms, dayClose, noEntries, oneEntry}
@@ -33,11 +33,11 @@ days (suc n) calls = morningClose ∷ dayClose ∷ days n calls
 
 -- the due day of the lot after the calls
 abbrev dueAfter : List Call → ℕ
-dueAfter calls = recordAt (zoneAfter calls freshZone) 7 .due
+dueAfter calls = recordOfReceipt (zoneAfter calls freshZone) 7 .due
 
 -- free money of an account after the calls
 abbrev freeAfter : ℕ → List Call → ℕ
-freeAfter account calls = freeAt (zoneAfter calls freshZone .accounts) account .0
+freeAfter account calls = freeOf (zoneAfter calls freshZone .accounts) account .0
 
 pub record FourteenExamples : Type 0 where
   -- 1, 2, 3 and 6
@@ -80,7 +80,7 @@ pub record FourteenExamples : Type 0 where
       ≡ opened ++ (noEntries ∷ oneEntry 7 4 2 1 15000 ∷ oneEntry 7 6 2 1 15000 ∷ oneEntry 7 13 1 2 0 ∷ noEntries ∷ oneEntry 7 15 1 2 1200000 ∷ [])
 
 pub fourteen-examples : FourteenExamples
-unfolding replay zoneAfter replyTo freshZone recordOf receiptAt freeAt nth
+unfolding replay zoneAfter replyTo freshZone recordOf receiptOfNumber freeOf nth
 fourteen-examples =
     record {
       money = money-examples;

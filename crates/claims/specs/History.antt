@@ -35,7 +35,7 @@ pub record Past : Type 0 where
   pub since : ℕ  -- the numbers of 9s and 11s since the latest 8
 
 -- the table: what it has of each lot, and of each account its pay-ins, its take-outs and what it sent and got by transfers
-pub record Table : Type 0 where
+pub record HistoryTable : Type 0 where
   pub lots : ℕ → Past
   pub payIns : ℕ → ℕ
   pub takeOuts : ℕ → ℕ
@@ -48,12 +48,12 @@ noPast =
     record { last = 0; from = 0; kind = 0; account = 0; bidder = 0; registrant = 0; buyer = 0; full = 0; since = 0 }
 
 -- no entry, no money
-abbrev pub empty : Table
+abbrev pub empty : HistoryTable
 empty = record { lots = λ k. noPast; payIns = λ x. 0; takeOuts = λ x. 0; sent = λ x. 0; got = λ x. 0 }
 
 -- a lot with one entry more, which is now its last (01 History 4, 6)
-abbrev pub remember : Call → Entry → Past → Past
-remember c e p =
+abbrev pub withEntry : Call → Entry → Past → Past
+withEntry c e p =
     let o : ℕ = e .outcome in
     record {
       last = o;
@@ -72,10 +72,10 @@ unfoldable pub transferred : Entry → ℕ
 transferred e = cond (oneOf (e .outcome) (9 ∷ 11 ∷ 12 ∷ 15 ∷ [])) (e .number) 0
 
 -- an entry goes in: its lot has it, and what it transfers is sent and got
-unfoldable pub enter : Call → Entry → Table → Table
+unfoldable pub enter : Call → Entry → HistoryTable → HistoryTable
 enter c e h =
     record {
-      lots = λ k. cond (eqb k (e .lot)) (remember c e (h .lots k)) (h .lots k);
+      lots = λ k. cond (eqb k (e .lot)) (withEntry c e (h .lots k)) (h .lots k);
       payIns = h .payIns;
       takeOuts = h .takeOuts;
       sent = λ x. h .sent x + fenOf x (e .from) (transferred e);
@@ -83,13 +83,13 @@ enter c e h =
     }
 
 -- entries one by one
-unfoldable pub enterAll : Call → List Entry → Table → Table
+unfoldable pub enterAll : Call → List Entry → HistoryTable → HistoryTable
 enterAll c [] h = h
 enterAll c (e ∷ es) h = enterAll c es (enter c e h)
 
 -- pay-ins and take-outs (01 History 3)
-unfoldable pub cash : Call → Table → Table
-cash c h =
+unfoldable pub paidInOrOut : Call → HistoryTable → HistoryTable
+paidInOrOut c h =
     record {
       lots = h .lots;
       payIns = λ x. h .payIns x + fenOf x (c .account) (cond (eqb (c .kind) 1) (c .amount) 0);
@@ -106,36 +106,36 @@ pub data Reply : Type 0 where
   acceptedWith : List Entry → Reply
 
 -- a refused call changes nothing (01 History 2)
-abbrev pub feed : Call → Reply → Table → Table
+abbrev pub feed : Call → Reply → HistoryTable → HistoryTable
 feed c (refusedWith n) h = h
-feed c (acceptedWith es) h = enterAll c es (cash c h)
+feed c (acceptedWith es) h = enterAll c es (paidInOrOut c h)
 
 -- the table after a list
-unfoldable pub history : List (Call × Reply) → Table
+unfoldable pub history : List (Call × Reply) → HistoryTable
 history [] = empty
 history (a ∷ list) = feed (a .0) (a .1) (history list)
 
 -- ── What the table holds (01 History 7) ────────────────────────────────────────────────────────
 
 -- the lot's last entry is the settlement or a step after it that is not the end
-abbrev pub isPaying : Past → Bool
-isPaying p = oneOf (p .last) (8 ∷ 9 ∷ 10 ∷ 11 ∷ [])
+abbrev pub afterSettlement : Past → Bool
+afterSettlement p = oneOf (p .last) (8 ∷ 9 ∷ 10 ∷ 11 ∷ [])
 
 -- What is held from account x: the deposit while a bid stands or a trade waits; from the settlement on its number, less what was paid
 -- since. Nothing is taken that is not there: `Exact`, which demand 3 has of every lot.
 abbrev pub heldIn : ℕ → Past → ℕ
 heldIn x p =
     cond (oneOf (p .last) (4 ∷ 6 ∷ 7 ∷ [])) (fenOf x (p .bidder) (deposit .0))
-    (cond (isPaying p) (fenOf x (p .buyer) (p .full - p .since))
+    (cond (afterSettlement p) (fenOf x (p .buyer) (p .full - p .since))
     0)
 
 -- no more was paid since the latest settlement than its number, and where `heldIn` takes the one from the other, nothing is lost
 pub record Exact (p : Past) : Type 0 where
   pub paid : p .since ≤ p .full
-  pub left : T (isPaying p) → p .full - p .since + p .since ≡ p .full
+  pub left : T (afterSettlement p) → p .full - p .since + p .since ≡ p .full
 
 -- over `more` lots from number n on
-unfoldable pub heldOver : ℕ → ℕ → ℕ → Table → ℕ
+unfoldable pub heldOver : ℕ → ℕ → ℕ → HistoryTable → ℕ
 heldOver x zero n h = 0
 heldOver x (suc more) n h = heldIn x (h .lots n) + heldOver x more (suc n) h
 
@@ -161,22 +161,22 @@ pub record OwnBid (c : Call) (e : Entry) (p : Past) : Type 0 where
   pub by : p .account ≡ e .from
 
 -- an entry that is no strike, or strikes a buyer who made this call or whose bid stands
-pub data Fair (c : Call) (e : Entry) (p : Past) : Type 0 where
-  noStrike : e .outcome ≢ 6 → Fair c e p
-  ownCall : OwnCall c e → Fair c e p
-  ownBid : OwnBid c e p → Fair c e p
+pub data OwnAct (c : Call) (e : Entry) (p : Past) : Type 0 where
+  noStrike : e .outcome ≢ 6 → OwnAct c e p
+  ownCall : OwnCall c e → OwnAct c e p
+  ownBid : OwnBid c e p → OwnAct c e p
 
 -- each entry of an answer, on the table as it is when the entry goes in
-unfoldable pub EachFair : Call → List Entry → Table → Type 0
-EachFair c [] h = Unit {0}
-EachFair c (e ∷ es) h = Fair c e (h .lots (e .lot)) × EachFair c es (enter c e h)
+unfoldable pub EachOwnAct : Call → List Entry → HistoryTable → Type 0
+EachOwnAct c [] h = Unit {0}
+EachOwnAct c (e ∷ es) h = OwnAct c e (h .lots (e .lot)) × EachOwnAct c es (enter c e h)
 
 -- the entries of an accepted call
-abbrev pub FairReply : Call → Reply → Table → Type 0
-FairReply c (refusedWith n) h = Unit {0}
-FairReply c (acceptedWith es) h = EachFair c es (cash c h)
+abbrev pub OwnActReply : Call → Reply → HistoryTable → Type 0
+OwnActReply c (refusedWith n) h = Unit {0}
+OwnActReply c (acceptedWith es) h = EachOwnAct c es (paidInOrOut c h)
 
 -- each call of a list
-unfoldable pub EachStrikeFair : List (Call × Reply) → Type 0
-EachStrikeFair [] = Unit {0}
-EachStrikeFair (a ∷ list) = FairReply (a .0) (a .1) (history list) × EachStrikeFair list
+unfoldable pub EachStrikeOwnAct : List (Call × Reply) → Type 0
+EachStrikeOwnAct [] = Unit {0}
+EachStrikeOwnAct (a ∷ list) = OwnActReply (a .0) (a .1) (history list) × EachStrikeOwnAct list

@@ -3,7 +3,7 @@
 use mathlib.Core.List.{List, [], _∷_}
 use Rattle.units.specs.Payments.{unitPrice, payable, fullPayment, firstPayment, restPayment, partPayment, penaltyPassed}
 use Rattle.zone.specs.declared.Zone.{Zone}
-use Rattle.zone.specs.Held.{full, held, share, heldFrom}
+use Rattle.zone.specs.Held.{full, held, fenFrom, heldFrom}
 use Rattle.zone.specs.Record.{recordOf}
 use Rattle.rules.specs.declared.Call.{Call}
 use Rattle.rules.specs.declared.Step.the-variants.{Refused, Accepted}
@@ -12,12 +12,12 @@ use Rattle.rules.specs.Events.{credit, debit, release, freeze, moneyOf, account
 use Rattle.rules.specs.Numbers.{illFormed, outOfRange, wrongPhase, wrongState, wrongParty, notAbove, lacksAsk, notPayable, lacksMoney, aboveLimit, aboveInvoice, firstNumber}
 use Rattle.rules.specs.Steps.{stepAt, stepOn}
 use Rattle.rules.specs.Tables.{nth, put}
-use Rattle.rules.specs.View.{freeAt, frozenAt, receiptAt, askAt, viewOf}
+use Rattle.rules.specs.View.{freeOf, frozenOf, receiptOfNumber, askOf, viewOf}
 use Rattle.claims.specs.History.{Reply, refusedWith, acceptedWith}
 
 -- the reply to a call, and the zone after it
 unfoldable pub replyTo : Zone → Call → Reply × Zone
-unfolding stepAt firstNumber illFormed outOfRange wrongPhase wrongState wrongParty notAbove lacksAsk notPayable lacksMoney aboveLimit aboveInvoice effect opening ending firstLot lotCount ruleOf register listFor withdrawListing limitBid marketBid withdrawBid quoteLot lodge closeLot payFirst sendInvoice confirm dayCloseLot noRule credit debit release freeze moneyOf accountsAfter posted sweep nth put freeAt frozenAt receiptAt askAt viewOf share held full heldFrom recordOf unitPrice payable fullPayment firstPayment restPayment partPayment penaltyPassed
+unfolding stepAt firstNumber illFormed outOfRange wrongPhase wrongState wrongParty notAbove lacksAsk notPayable lacksMoney aboveLimit aboveInvoice effect opening ending firstLot lotCount ruleOf register listFor withdrawListing limitBid marketBid withdrawBid quoteLot lodge closeLot payFirst sendInvoice confirm dayCloseLot noRule credit debit release freeze moneyOf accountsAfter posted sweep nth put freeOf frozenOf receiptOfNumber askOf viewOf fenFrom held full heldFrom recordOf unitPrice payable fullPayment firstPayment restPayment partPayment penaltyPassed
 replyTo z c =
     elim (stepOn z c) [ Refused n ↦ (refusedWith n, z) | Accepted a ↦ (acceptedWith (effect z c .entries), effect z c .zone) ]
 

@@ -19,17 +19,17 @@ use Rattle.answers.specs.Buffers.{callLength, callIn, answerLength, refusedAnsw
 
 -- The numbers of the buffers come first (01 Answers 12, 13): 1 for a short answer, 2 for an image that is not valid or of another
 -- length. Where neither applies it is n, the number of the call.
-unfoldable pub behindBuffers : List ℕ → List ℕ → ℕ → ℕ
-behindBuffers image answer n = cond (ltb (length answer) answerLength) 1 (cond (not (validImage image)) 2 n)
+unfoldable pub afterBufferNumbers : List ℕ → List ℕ → ℕ → ℕ
+afterBufferNumbers image answer n = cond (ltb (length answer) answerLength) 1 (cond (not (validImage image)) 2 n)
 
 -- the number of a call on the zone that the image is
 unfoldable pub callNumber : List ℕ → Call → List ℕ → ℕ
-callNumber image c answer = behindBuffers image answer (numberOn (decode image) c)
+callNumber image c answer = afterBufferNumbers image answer (numberOn (decode image) c)
 
 -- the number of a call record (01 Answers 14): a record of another length is refused by 3 before its fields are looked at
 unfoldable pub recordNumber : List ℕ → List ℕ → List ℕ → ℕ
 recordNumber image call answer =
-    cond (eqb (length call) callLength) (callNumber image (callIn call) answer) (behindBuffers image answer 3)
+    cond (eqb (length call) callLength) (callNumber image (callIn call) answer) (afterBufferNumbers image answer 3)
 
 -- ── What is left behind ────────────────────────────────────────────────────────────────────────
 

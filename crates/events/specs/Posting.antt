@@ -13,7 +13,7 @@ use Rattle.rules.specs.declared.AtLot.{AtLot}
 use Rattle.rules.specs.declared.AtLot.the-variants.{NoEvent, Event}
 use Rattle.rules.specs.declared.Entry.{Entry}
 use Rattle.rules.specs.Ready.{Funded}
-use Rattle.rules.specs.View.{recordAt}
+use Rattle.rules.specs.View.{recordOfReceipt}
 
 -- The entry names a lot, the receipt after it is valid, and each move finds its money.
 pub record Postable (z : Zone) (e : Entry) (r : Receipt) : Type 0 where
@@ -21,7 +21,7 @@ pub record Postable (z : Zone) (e : Entry) (r : Receipt) : Type 0 where
   pub low : 1 ≤ e .lot
   pub high : e .lot ≤ receiptCount
   pub valid : recordValid (recordOf r) ≡ true
-  pub funded : Funded (z .accounts) (recordAt z (e .lot)) e (recordOf r)
+  pub funded : Funded (z .accounts) (recordOfReceipt z (e .lot)) e (recordOf r)
 
 -- an event at a lot, if there is one, can be posted
 abbrev pub CanPost : Zone → AtLot → Type 0

@@ -4,9 +4,9 @@ ghost use Prim.Native.Nat.{_≤_, _<_};
 ghost use Rattle.units.specs.Ranges.{accountCount, moneyLimit};
 ghost use Rattle.zone.specs.Parts.{withAccounts};
 ghost use Rattle.image.specs.Image.{decode, encode, Encoded, Fits};
-ghost use Rattle.rules.specs.Events.{credit, debit, release, freeze};
+ghost use Rattle.rules.specs.Events.{credit, debit, release, freeze, moneyMoved};
 ghost use Rattle.rules.specs.Ready.{Funds};
-ghost use Rattle.rules.specs.View.{freeAt, frozenAt};
+ghost use Rattle.rules.specs.View.{freeOf, frozenOf};
 ghost use Rattle.events.specs.Money.{changed, Affords};
 use units::Fen;
 use zone::Account;
@@ -39,21 +39,21 @@ pub fn credit_to(image: &mut [u8], a: u8, n: Fen)
 }
 
 pub fn debit_from(image: &mut [u8], a: u8, n: Fen)
-    requires { ⌜ Encoded (now image) × Fits (decode (now image)) × (a ≤ accountCount) × (0 < a → n .0 ≤ freeAt (decode (now image) .accounts) a .0) ⌝ }
+    requires { ⌜ Encoded (now image) × Fits (decode (now image)) × (a ≤ accountCount) × (0 < a → n .0 ≤ freeOf (decode (now image) .accounts) a .0) ⌝ }
     ensures { λ _. ⌜ now (image .exit) ≡ encode (withAccounts (decode (now (image .entry))) (debit a n (decode (now (image .entry)) .accounts))) ⌝ }
 {
     change(image, a, Fen(0), n, Fen(0), Fen(0));
 }
 
 fn release_to(image: &mut [u8], a: u8, n: Fen)
-    requires { ⌜ Encoded (now image) × Fits (decode (now image)) × (a ≤ accountCount) × (0 < a → n .0 ≤ frozenAt (decode (now image) .accounts) a .0) ⌝ }
+    requires { ⌜ Encoded (now image) × Fits (decode (now image)) × (a ≤ accountCount) × (0 < a → n .0 ≤ frozenOf (decode (now image) .accounts) a .0) ⌝ }
     ensures { λ _. ⌜ now (image .exit) ≡ encode (withAccounts (decode (now (image .entry))) (release a n (decode (now (image .entry)) .accounts))) ⌝ }
 {
     change(image, a, n, Fen(0), Fen(0), n);
 }
 
 fn freeze_from(image: &mut [u8], a: u8, n: Fen)
-    requires { ⌜ Encoded (now image) × Fits (decode (now image)) × (a ≤ accountCount) × (0 < a → n .0 ≤ freeAt (decode (now image) .accounts) a .0) ⌝ }
+    requires { ⌜ Encoded (now image) × Fits (decode (now image)) × (a ≤ accountCount) × (0 < a → n .0 ≤ freeOf (decode (now image) .accounts) a .0) ⌝ }
     ensures { λ _. ⌜ now (image .exit) ≡ encode (withAccounts (decode (now (image .entry))) (freeze a n (decode (now (image .entry)) .accounts))) ⌝ }
 {
     change(image, a, Fen(0), n, n, Fen(0));
@@ -62,7 +62,7 @@ fn freeze_from(image: &mut [u8], a: u8, n: Fen)
 // What the lot held is freed, n passes from one account to the other, and what the lot now holds is frozen.
 pub fn move_money(image: &mut [u8], old: Hold, from: u8, to: u8, n: Fen, new: Hold)
     requires { ⌜ Encoded (now image) × Fits (decode (now image)) × Funds (decode (now image) .accounts) old from to n new ⌝ }
-    ensures { λ _. ⌜ now (image .exit) ≡ encode (withAccounts (decode (now (image .entry))) (freeze (new .from) (new .fen) (credit to n (debit from n (release (old .from) (old .fen) (decode (now (image .entry)) .accounts)))))) ⌝ }
+    ensures { λ _. ⌜ now (image .exit) ≡ encode (withAccounts (decode (now (image .entry))) (moneyMoved old from to n new (decode (now (image .entry)) .accounts))) ⌝ }
 {
     let before = old.fen;
     let after = new.fen;

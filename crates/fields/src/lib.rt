@@ -1,6 +1,6 @@
 // The fields of a call that its kind uses: the others are zero, these are in their ranges.
 ghost use mathlib.Core.Path.{_≡_};
-ghost use Rattle.rules.specs.Numbers.{brackets, isUsed, unusedZero, inRange, values};
+ghost use Rattle.rules.specs.Numbers.{account, receipt, contract, amount, brackets, isUsed, unusedZero, inRange, values};
 use rules::Call;
 use rules::KIND_CONFIRM;
 use rules::KIND_FIRST_PAYMENT;
@@ -15,7 +15,7 @@ use rules::KIND_TAKE_OUT;
 use rules::KIND_WITHDRAW_BID;
 
 fn uses_account(kind: u8) -> bool
-    ensures { λ r. ⌜ r ≡ isUsed 0 (brackets kind) ⌝ }
+    ensures { λ r. ⌜ r ≡ isUsed (account .index) (brackets kind) ⌝ }
 {
     (KIND_PAY_IN <= kind) & (kind <= KIND_WITHDRAW_BID)
         | (kind == KIND_LODGE)
@@ -23,7 +23,7 @@ fn uses_account(kind: u8) -> bool
 }
 
 fn uses_receipt(kind: u8) -> bool
-    ensures { λ r. ⌜ r ≡ isUsed 1 (brackets kind) ⌝ }
+    ensures { λ r. ⌜ r ≡ isUsed (receipt .index) (brackets kind) ⌝ }
 {
     (KIND_REGISTER <= kind) & (kind <= KIND_WITHDRAW_BID)
         | (kind == KIND_LODGE)
@@ -31,13 +31,13 @@ fn uses_receipt(kind: u8) -> bool
 }
 
 fn uses_contract(kind: u8) -> bool
-    ensures { λ r. ⌜ r ≡ isUsed 2 (brackets kind) ⌝ }
+    ensures { λ r. ⌜ r ≡ isUsed (contract .index) (brackets kind) ⌝ }
 {
     (kind == KIND_LIST) | (kind == KIND_QUOTE)
 }
 
 fn uses_amount(kind: u8) -> bool
-    ensures { λ r. ⌜ r ≡ isUsed 4 (brackets kind) ⌝ }
+    ensures { λ r. ⌜ r ≡ isUsed (amount .index) (brackets kind) ⌝ }
 {
     (kind == KIND_PAY_IN)
         | (kind == KIND_TAKE_OUT)

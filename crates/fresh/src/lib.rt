@@ -98,7 +98,7 @@ fn put_accounts(image: &mut [u8], a: [Account; ACCOUNTS])
 {
     let mut i: usize = 0;
     while i < ACCOUNTS {
-        put::account_run(image, ACCOUNT_START + i * ACCOUNT_LENGTH, a[i]);
+        put::account_bytes(image, ACCOUNT_START + i * ACCOUNT_LENGTH, a[i]);
         i += 1;
     }
 }
@@ -120,7 +120,7 @@ fn put_receipts(image: &mut [u8], a: [Receipt; RECEIPTS])
 {
     let mut i: usize = 0;
     while i < RECEIPTS {
-        put::record_run(
+        put::record_bytes(
             image,
             RECEIPT_START + i * RECEIPT_LENGTH,
             zone::record_of(a[i]),

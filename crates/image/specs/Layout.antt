@@ -144,12 +144,16 @@ afternoonIn s = eqb (getD s phasePlace 0) 1
 abbrev pub totalIn : List ℕ → ℕ
 totalIn s = leAt 8 s totalPlace
 
+-- the byte of a phase
+abbrev pub phaseByte : Bool → ℕ
+phaseByte afternoon = cond afternoon 1 0
+
 -- the bytes of a header, field by field
 unfoldable pub headerBytes : ℕ → Bool → ℕ → List ℕ
 headerBytes day afternoon total =
     leBytes 2 accountCount ++ leBytes 2 receiptCount ++ leBytes 2 contractCount ++ leBytes 2 day
     ++ leBytes 4 accountStart ++ leBytes 4 contractStart ++ leBytes 4 receiptStart
-    ++ (cond afternoon 1 0 ∷ 0 ∷ 0 ∷ 0 ∷ []) ++ leBytes 8 total
+    ++ (phaseByte afternoon ∷ 0 ∷ 0 ∷ 0 ∷ []) ++ leBytes 8 total
 
 -- ── An account ─────────────────────────────────────────────────────────────────────────────────
 

@@ -1,11 +1,10 @@
 // An image of bytes as a zone: where each part stands, and each part read there.
 ghost use mathlib.Core.Path.{_≡_};
-ghost use mathlib.Core.Bool.{cond};
 ghost use Prim.Native.Nat.{_<_};
 ghost use lib.ListN.{length};
 ghost use Rattle.units.specs.Payments.{fen};
 ghost use Rattle.units.specs.Ranges.{accountCount, receiptCount, contractCount};
-ghost use Rattle.image.specs.Layout.{accountLength, receiptLength, imageLength, accountRun, askRun, receiptRun, dayIn, afternoonIn, totalIn, accountIn, askIn, recordIn};
+ghost use Rattle.image.specs.Layout.{accountLength, receiptLength, imageLength, accountRun, askRun, receiptRun, dayIn, afternoonIn, phaseByte, totalIn, accountIn, askIn, recordIn};
 use units::ACCOUNTS;
 use units::Basis;
 use units::CONTRACTS;
@@ -203,7 +202,7 @@ pub fn contract_at(image: &[u8], k: usize) -> u8
 
 // The byte of a phase.
 pub fn phase(afternoon: bool) -> u8
-    ensures { λ r. ⌜ r ≡ cond afternoon 1 0 ⌝ }
+    ensures { λ r. ⌜ r ≡ phaseByte afternoon ⌝ }
 {
     if afternoon { 1 } else { 0 }
 }

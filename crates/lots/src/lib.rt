@@ -9,7 +9,7 @@ ghost use Rattle.image.specs.Image.{validImage, decode, Encoded, Fits};
 ghost use Rattle.image.specs.Layout.{imageLength};
 ghost use Rattle.rules.specs.Effects.{sweeps, ruleAt};
 ghost use Rattle.rules.specs.Steps.{stepOn};
-ghost use Rattle.rules.specs.View.{viewOf, recordAt, askAt, freeAt};
+ghost use Rattle.rules.specs.View.{viewOf, recordOfReceipt, askOf, freeOf};
 ghost use Rattle.lots.specs.Concerned.{concerned};
 use rules::AtLot;
 use rules::Call;
@@ -35,7 +35,7 @@ use zone::STATE_STRUCK;
 // Free money of any account number; who is no account has none.
 fn free_of(image: &[u8], a: u8) -> Fen
     requires { ⌜ length (now image) ≡ imageLength ⌝ }
-    ensures { λ r. ⌜ r ≡ freeAt (decode (now (image .entry)) .accounts) a ⌝ }
+    ensures { λ r. ⌜ r ≡ freeOf (decode (now (image .entry)) .accounts) a ⌝ }
 {
     if !units::is_account(a) {
         return Fen(0);
@@ -48,7 +48,7 @@ fn free_of(image: &[u8], a: u8) -> Fen
 // The ask of a contract; a receipt without a listing has contract 0, and that has none.
 fn ask_of(image: &[u8], n: u8) -> YuanPerTonne
     requires { ⌜ (length (now image) ≡ imageLength) × (n ≤ contractCount) ⌝ }
-    ensures { λ r. ⌜ r ≡ askAt (decode (now (image .entry)) .asks) n ⌝ }
+    ensures { λ r. ⌜ r ≡ askOf (decode (now (image .entry)) .asks) n ⌝ }
 {
     if n == 0 {
         return YuanPerTonne(0);
@@ -60,7 +60,7 @@ fn ask_of(image: &[u8], n: u8) -> YuanPerTonne
 // The record of any receipt number; a number that is none has the record of no receipt.
 fn record_of_receipt(image: &[u8], n: u8) -> Record
     requires { ⌜ Encoded (now image) × Fits (decode (now image)) ⌝ }
-    ensures { λ r. ⌜ r ≡ recordAt (decode (now (image .entry))) n ⌝ }
+    ensures { λ r. ⌜ r ≡ recordOfReceipt (decode (now (image .entry))) n ⌝ }
 {
     if !units::is_receipt(n) {
         return zone::record_of(Receipt {

@@ -82,12 +82,12 @@ fn wrong_state(c: Call, f: Record) -> bool
     let registered = !(f.owner == 0);
     let pending = !(f.pending.0 == 0);
     let offered = (state == STATE_LISTED) | (state == STATE_BID_STANDS);
-    let on_offer = (kind == KIND_WITHDRAW_LISTING)
+    let offer_kind = (kind == KIND_WITHDRAW_LISTING)
         | (kind == KIND_LIMIT_BID)
         | (kind == KIND_MARKET_BID);
     let named = ((kind != KIND_REGISTER) | !registered)
         & ((kind != KIND_LIST) | (state == STATE_IDLE) & registered)
-        & (!on_offer | offered)
+        & (!offer_kind | offered)
         & ((kind != KIND_WITHDRAW_BID) | (state == STATE_BID_STANDS))
         & ((kind != KIND_LODGE) | (state == STATE_STRUCK))
         & ((kind != KIND_FIRST_PAYMENT) | (state == STATE_SETTLED))
@@ -101,17 +101,17 @@ fn wrong_party(c: Call, f: Record) -> bool
     ensures { λ x. ⌜ x ≡ wrongParty c f ⌝ }
 {
     let kind = c.kind;
-    let by_owner = c.account == f.owner;
-    let by_seller = c.account == f.seller;
-    let by_buyer = c.account == f.buyer;
+    let is_owner = c.account == f.owner;
+    let is_seller = c.account == f.seller;
+    let is_buyer = c.account == f.buyer;
     let of_seller = (kind == KIND_WITHDRAW_LISTING)
         | (kind == KIND_LODGE)
         | (kind == KIND_FIRST_PAYMENT)
         | (kind == KIND_INVOICE);
-    let named = ((kind != KIND_LIST) | by_owner)
-        & (!of_seller | by_seller)
-        & (!((kind == KIND_WITHDRAW_BID) | (kind == KIND_CONFIRM)) | by_buyer)
-        & (!((kind == KIND_LIMIT_BID) | (kind == KIND_MARKET_BID)) | !by_seller);
+    let named = ((kind != KIND_LIST) | is_owner)
+        & (!of_seller | is_seller)
+        & (!((kind == KIND_WITHDRAW_BID) | (kind == KIND_CONFIRM)) | is_buyer)
+        & (!((kind == KIND_LIMIT_BID) | (kind == KIND_MARKET_BID)) | !is_seller);
     !named
 }
 

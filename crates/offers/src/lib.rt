@@ -2,7 +2,7 @@
 ghost use mathlib.Core.Path.{_≡_};
 ghost use Prim.Native.Nat.{_≤_};
 ghost use Rattle.units.specs.Ranges.{mostPrice, lastDay};
-ghost use Rattle.rules.specs.Effects.{dueDay, bidStands, bidStruck, meetsAsk, register, listFor, withdrawListing, limitBid, marketBid, withdrawBid, quoteLot};
+ghost use Rattle.rules.specs.Effects.{dueDay, bidStands, bidStruck, meetsAsk, register, listFor, listingEnded, limitBid, marketBid, withdrawBid, quoteLot};
 ghost use Rattle.rules.specs.Ready.{Ready};
 use rules::AtLot;
 use rules::Call;
@@ -54,7 +54,7 @@ pub fn list_at(c: Call, n: u8, f: Record) -> AtLot
 }
 
 pub fn end_listing(n: u8, f: Record) -> AtLot
-    ensures { λ x. ⌜ x ≡ withdrawListing n f ⌝ }
+    ensures { λ x. ⌜ x ≡ listingEnded n f ⌝ }
 {
     AtLot::Event(
         rules::by_owner(n, OUTCOME_ENDED, f.seller),

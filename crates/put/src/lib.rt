@@ -34,7 +34,7 @@ use zone::Record;
 
 // ── Runs of bytes ───────────────────────────────────────────────────────────────────────────────
 
-pub fn account_run(image: &mut [u8], at: usize, a: Account)
+pub fn account_bytes(image: &mut [u8], at: usize, a: Account)
     requires { ⌜ at + accountLength ≤ length (now image) ⌝ }
     ensures { λ _. ⌜ now (image .exit) ≡ sets (now (image .entry)) at (accountBytes a) ⌝ }
 {
@@ -61,7 +61,7 @@ fn low_half(n: Fen) -> u32
     (n.0 % 4294967296) as u32
 }
 
-pub fn record_run(image: &mut [u8], at: usize, r: Record)
+pub fn record_bytes(image: &mut [u8], at: usize, r: Record)
     requires { ⌜ at + receiptLength ≤ length (now image) ⌝ }
     ensures { λ _. ⌜ now (image .exit) ≡ sets (now (image .entry)) at (recordBytes r) ⌝ }
 {
@@ -93,7 +93,7 @@ pub fn account(image: &mut [u8], k: usize, a: Account)
     requires { ⌜ Encoded (now image) × (k < accountCount) ⌝ }
     ensures { λ _. ⌜ now (image .exit) ≡ encode (withAccounts (decode (now (image .entry))) (set (decode (now (image .entry)) .accounts) k a)) ⌝ }
 {
-    account_run(image, ACCOUNT_START + k * ACCOUNT_LENGTH, a);
+    account_bytes(image, ACCOUNT_START + k * ACCOUNT_LENGTH, a);
 }
 
 pub fn ask(image: &mut [u8], k: usize, ask: YuanPerTonne)
@@ -115,7 +115,7 @@ pub fn receipt(image: &mut [u8], k: usize, r: Receipt)
     requires { ⌜ Encoded (now image) × (k < receiptCount) ⌝ }
     ensures { λ _. ⌜ now (image .exit) ≡ encode (withReceipts (decode (now (image .entry))) (set (decode (now (image .entry)) .receipts) k r)) ⌝ }
 {
-    record_run(
+    record_bytes(
         image,
         RECEIPT_START + k * RECEIPT_LENGTH,
         zone::record_of(r),

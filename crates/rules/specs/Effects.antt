@@ -27,7 +27,7 @@ use Rattle.rules.specs.declared.Entry.{Entry}
 use Rattle.rules.specs.declared.View.{View}
 use Rattle.rules.specs.Events.{credit, debit, sweep, Done}
 use Rattle.rules.specs.Tables.{among, row, put}
-use Rattle.rules.specs.View.{viewOf, recordAt}
+use Rattle.rules.specs.View.{viewOf, recordOfReceipt}
 
 -- ── Entries ────────────────────────────────────────────────────────────────────────────────────
 
@@ -78,9 +78,13 @@ listFor c n f =
     Event (entryOf n 2 (c .account) 0 0)
     (withLot f (Listed (record { seller = c .account; contract = c .contract; days = c .days; basis = record { 0 = c .basis } })))
 
--- 5 withdraw a listing (01 Calls 7); a bid on it ends with it (article 8)
+-- a listing ends, and a bid on it with it: the lot is idle (01 Answers 6)
+abbrev pub listingEnded : ℕ → Record → AtLot
+listingEnded n f = eventOf n f Idle 3 0
+
+-- 5 withdraw a listing (01 Calls 7, article 8)
 unfoldable pub withdrawListing : ℕ → Record → AtLot
-withdrawListing n f = eventOf n f Idle 3 0
+withdrawListing n f = listingEnded n f
 
 -- 6 limit bid (01 Calls 8, 9): struck at the price bid where the ask is not above it, else it stands (articles 9 and 10)
 unfoldable pub limitBid : View → Call → ℕ → Record → AtLot
@@ -126,10 +130,10 @@ closeStruck v n f =
 abbrev pub closePenalty : View → ℕ → Record → AtLot
 closePenalty v n f = eventOf n f Idle 15 (penaltyPassed (v .free .seller) .0)
 
--- each of these on its due day or later (01 Calls 14)
+-- each of these states on its due day or later (01 Calls 14), no other
 unfoldable pub closeLot : View → ℕ → Record → AtLot
 closeLot v n f =
-    cond (among (f .state) (3 ∷ 4 ∷ 7 ∷ []) && leb (f .due) (v .day))
+    cond (leb (f .due) (v .day))
     (row (f .state) NoEvent ((4 ∷ [], closeLodged v n f) ∷ (3 ∷ [], closeStruck v n f) ∷ (7 ∷ [], closePenalty v n f) ∷ []))
     NoEvent
 
@@ -144,9 +148,9 @@ sendInvoice c n f =
 
 -- the lot after a confirmation that pays `part`: over once all is confirmed, else with the invoice confirmed and its part paid
 abbrev pub confirmedLot : Record → Fen → Fen → Lot
-confirmedLot f all part =
+confirmedLot f whole part =
     let confirmed : ℕ = f .confirmed .0 + f .pending .0 in
-    cond (eqb confirmed (all .0)) Idle
+    cond (eqb confirmed (whole .0)) Idle
     (FirstPaid (tradeOf f) (record { pending = fen 0; confirmed = fen confirmed; paid = fen (f .paid .0 + part .0) }))
 
 -- 14 confirm (01 Calls 24); the number is the fen paid (article 17)
@@ -157,7 +161,7 @@ confirm n f =
 
 -- 15 day close (01 Calls 25): a listing ends, with or without a bid (article 12)
 unfoldable pub dayCloseLot : ℕ → Record → AtLot
-dayCloseLot n f = cond (among (f .state) (1 ∷ 2 ∷ [])) (eventOf n f Idle 3 0) NoEvent
+dayCloseLot n f = cond (among (f .state) (1 ∷ 2 ∷ [])) (listingEnded n f) NoEvent
 
 -- what a kind does at lot n of record f, in view v
 abbrev pub Rule : Type 0
@@ -191,7 +195,7 @@ ruleOf kind = row kind noRule ruleTable
 
 -- the rule on a zone
 abbrev pub ruleAt : Call → Zone → ℕ → AtLot
-ruleAt c z n = ruleOf (c .kind) (viewOf z (c .account) (recordAt z n)) c n (recordAt z n)
+ruleAt c z n = ruleOf (c .kind) (viewOf z (c .account) (recordOfReceipt z n)) c n (recordOfReceipt z n)
 
 -- ── Opening and ending ─────────────────────────────────────────────────────────────────────────
 

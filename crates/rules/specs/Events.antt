@@ -6,6 +6,7 @@ use Prim.Native.Nat.{ℕ, zero, suc, _+_, _-_}
 use Rattle.units.specs.declared.Fen.{Fen}
 use Rattle.units.specs.Payments.{fen}
 use Rattle.zone.specs.declared.Account.{Account}
+use Rattle.zone.specs.declared.Hold.{Hold}
 use Rattle.zone.specs.declared.Receipt.{Receipt}
 use Rattle.zone.specs.declared.Record.{Record}
 use Rattle.zone.specs.declared.Zone.{Zone}
@@ -15,7 +16,7 @@ use Rattle.rules.specs.declared.AtLot.{AtLot}
 use Rattle.rules.specs.declared.AtLot.the-variants.{NoEvent, Event}
 use Rattle.rules.specs.declared.Entry.{Entry}
 use Rattle.rules.specs.Tables.{among, put}
-use Rattle.rules.specs.View.{freeAt, frozenAt, recordAt}
+use Rattle.rules.specs.View.{freeOf, frozenOf, recordOfReceipt}
 
 -- ── Four moves of money ────────────────────────────────────────────────────────────────────────
 -- n fen of account a. Nothing is taken that is not there: of an event `funded` (Laws/Fit) says that each move finds its money, and of a
@@ -23,19 +24,23 @@ use Rattle.rules.specs.View.{freeAt, frozenAt, recordAt}
 
 -- more free money
 unfoldable pub credit : ℕ → Fen → List Account → List Account
-credit a n l = put l a (record { free = fen (freeAt l a .0 + n .0); frozen = frozenAt l a })
+credit a n l = put l a (record { free = fen (freeOf l a .0 + n .0); frozen = frozenOf l a })
 
 -- less free money
 unfoldable pub debit : ℕ → Fen → List Account → List Account
-debit a n l = put l a (record { free = fen (freeAt l a .0 - n .0); frozen = frozenAt l a })
+debit a n l = put l a (record { free = fen (freeOf l a .0 - n .0); frozen = frozenOf l a })
 
 -- frozen money becomes free
 unfoldable pub release : ℕ → Fen → List Account → List Account
-release a n l = put l a (record { free = fen (freeAt l a .0 + n .0); frozen = fen (frozenAt l a .0 - n .0) })
+release a n l = put l a (record { free = fen (freeOf l a .0 + n .0); frozen = fen (frozenOf l a .0 - n .0) })
 
 -- free money is frozen
 unfoldable pub freeze : ℕ → Fen → List Account → List Account
-freeze a n l = put l a (record { free = fen (freeAt l a .0 - n .0); frozen = fen (frozenAt l a .0 + n .0) })
+freeze a n l = put l a (record { free = fen (freeOf l a .0 - n .0); frozen = fen (frozenOf l a .0 + n .0) })
+
+-- The four in order, of what a lot held before, n fen that pass from one account to another, and what the lot holds after.
+abbrev pub moneyMoved : Hold → ℕ → ℕ → Fen → Hold → List Account → List Account
+moneyMoved old from to n new l = freeze (new .from) (new .fen) (credit to n (debit from n (release (old .from) (old .fen) l)))
 
 -- ── An event ───────────────────────────────────────────────────────────────────────────────────
 
@@ -47,13 +52,7 @@ moneyOf e = cond (among (e .outcome) (9 ∷ 11 ∷ 12 ∷ 15 ∷ [])) (fen (e .n
 -- The accounts after the event with entry e, by which a lot of record f has record f′: what the lot held is freed, the entry's money
 -- passes, what the lot now holds is frozen.
 unfoldable pub accountsAfter : Record → Entry → Record → List Account → List Account
-accountsAfter f e f′ l =
-    let old = holdOf f in
-    let new = holdOf f′ in
-    freeze (new .from) (new .fen)
-    (credit (e .to) (moneyOf e)
-    (debit (e .from) (moneyOf e)
-    (release (old .from) (old .fen) l)))
+accountsAfter f e f′ l = moneyMoved (holdOf f) (e .from) (e .to) (moneyOf e) (holdOf f′) l
 
 -- the zone with an event posted: the lot's receipt changed, and its money moved
 unfoldable pub posted : Zone → Entry → Receipt → Zone
@@ -62,7 +61,7 @@ posted z e r =
       day = z .day;
       afternoon = z .afternoon;
       asks = z .asks;
-      accounts = accountsAfter (recordAt z (e .lot)) e (recordOf r) (z .accounts);
+      accounts = accountsAfter (recordOfReceipt z (e .lot)) e (recordOf r) (z .accounts);
       receipts = put (z .receipts) (e .lot) r;
       total = z .total;
     }

@@ -6,6 +6,7 @@ use mathlib.Core.List.{List, [], _∷_}
 use Prim.Native.Nat.{ℕ, zero, suc, _+_}
 use lib.Dec.{eqb, ltb}
 use lib.IntN.{ℤ, pos, negsuc}
+use lib.ListN.{getD}
 use Rattle.units.specs.Payments.{payable, deposit}
 use Rattle.units.specs.Ranges.{within, isZero, isAccount, isReceipt, isContract, isDays, isPrice, isAsk, isBasis, isWeight, isAmount, moneyLimit, lastDay}
 use Rattle.zone.specs.declared.Record.{Record}
@@ -16,12 +17,12 @@ use Rattle.rules.specs.Tables.{among, row, firstThatApplies}
 
 -- ── The fields of a call ───────────────────────────────────────────────────────────────────────
 
--- A field of the call record: its place, and its range where a kind uses it
+-- A field of a call: its index in `values`, and its range where a kind uses it
 pub record Field : Type 0 where
-  pub place : ℕ
+  pub index : ℕ
   pub range : ℤ → Bool
 
--- the fields by their places
+-- the fields in the order of their indices
 abbrev pub values : Call → List ℤ
 values c =
     pos (c .account) ∷ pos (c .receipt) ∷ pos (c .contract) ∷ pos (c .days) ∷ pos (c .amount) ∷ c .basis ∷ pos (c .weight)
@@ -34,31 +35,31 @@ natural f (negsuc n) = false
 
 -- The fields, each with the range of its numbers (01 Image 17). One field is an amount, a price, or a price or 0, by its kind.
 abbrev pub account : Field
-account = record { place = 0; range = natural isAccount }
+account = record { index = 0; range = natural isAccount }
 
 abbrev pub receipt : Field
-receipt = record { place = 1; range = natural isReceipt }
+receipt = record { index = 1; range = natural isReceipt }
 
 abbrev pub contract : Field
-contract = record { place = 2; range = natural isContract }
+contract = record { index = 2; range = natural isContract }
 
 abbrev pub D : Field
-D = record { place = 3; range = natural isDays }
+D = record { index = 3; range = natural isDays }
 
 abbrev pub amount : Field
-amount = record { place = 4; range = natural isAmount }
+amount = record { index = 4; range = natural isAmount }
 
 abbrev pub price : Field
-price = record { place = 4; range = natural isPrice }
+price = record { index = 4; range = natural isPrice }
 
 abbrev pub priceOr0 : Field
-priceOr0 = record { place = 4; range = natural isAsk }
+priceOr0 = record { index = 4; range = natural isAsk }
 
 abbrev pub basis : Field
-basis = record { place = 5; range = isBasis }
+basis = record { index = 5; range = isBasis }
 
 abbrev pub weight : Field
-weight = record { place = 6; range = natural isWeight }
+weight = record { index = 6; range = natural isWeight }
 
 -- the fields that each kind uses, those in its brackets (01 Calls 4 to 25); the spare bytes are in none
 abbrev pub brackets : ℕ → List Field
@@ -73,26 +74,20 @@ brackets kind =
     ∷ (13 ∷ [], account ∷ receipt ∷ amount ∷ [])
     ∷ [])
 
--- a field of that place is among them
+-- a field of that index is among them
 abbrev pub isUsed : ℕ → List Field → Bool
-isUsed place [] = false
-isUsed place (f ∷ fs) = eqb place (f .place) || isUsed place fs
+isUsed i [] = false
+isUsed i (f ∷ fs) = eqb i (f .index) || isUsed i fs
 
--- from the place on, each value is used or zero (01 Calls 3)
+-- from index i on, each value is used or zero (01 Calls 3)
 abbrev pub unusedZero : List Field → ℕ → List ℤ → Bool
-unusedZero fs place [] = true
-unusedZero fs place (v ∷ vs) = (isUsed place fs || isZero v) && unusedZero fs (suc place) vs
+unusedZero fs i [] = true
+unusedZero fs i (v ∷ vs) = (isUsed i fs || isZero v) && unusedZero fs (suc i) vs
 
--- the value at a place
-abbrev pub valueAt : ℕ → List ℤ → ℤ
-valueAt place [] = pos 0
-valueAt zero (v ∷ vs) = v
-valueAt (suc place) (v ∷ vs) = valueAt place vs
-
--- each of the fields is in its range
+-- each of the fields is in its range; every index has its value, so that 0 stands for none
 abbrev pub inRange : List Field → List ℤ → Bool
 inRange [] vs = true
-inRange (f ∷ fs) vs = f .range (valueAt (f .place) vs) && inRange fs vs
+inRange (f ∷ fs) vs = f .range (getD vs (f .index) (pos 0)) && inRange fs vs
 
 -- ── One test for each number ───────────────────────────────────────────────────────────────────
 -- f is the record of the receipt that the call names, v what the rules read beside it

@@ -10,13 +10,13 @@ use Rattle.units.specs.Ranges.{mostPrice, moneyLimit, lastDay}
 use Rattle.zone.specs.declared.Account.{Account}
 use Rattle.zone.specs.declared.Hold.{Hold}
 use Rattle.zone.specs.declared.Record.{Record}
-use Rattle.zone.specs.Held.{holdOf, share}
+use Rattle.zone.specs.Held.{holdOf, fenFrom}
 use Rattle.zone.specs.Valid.{recordValid}
 use Rattle.rules.specs.declared.Call.{Call}
 use Rattle.rules.specs.declared.Entry.{Entry}
 use Rattle.rules.specs.declared.View.{View}
 use Rattle.rules.specs.Events.{moneyOf}
-use Rattle.rules.specs.View.{freeAt, frozenAt}
+use Rattle.rules.specs.View.{freeOf, frozenOf}
 
 -- the lot's record is valid, and the view's day and money are within their limits, as in a valid zone
 pub record Ready (v : View) (f : Record) : Type 0 where
@@ -40,10 +40,10 @@ pub record Funds (l : List Account) (old : Hold) (s t : ℕ) (n : Fen) (new : Ho
   pub new-in : new .from ≤ length l
   pub from-some : 0 < s
   pub to-some : 0 < n .0 → 0 < t
-  pub frozen-fits : 0 < old .from → old .fen .0 ≤ frozenAt l (old .from) .0
-  pub pass-fits : n .0 ≤ freeAt l s .0 + share s (old .from) (old .fen .0)
+  pub frozen-fits : 0 < old .from → old .fen .0 ≤ frozenOf l (old .from) .0
+  pub pass-fits : n .0 ≤ freeOf l s .0 + fenFrom s (old .from) (old .fen .0)
   pub hold-fits : 0 < new .from →
-      new .fen .0 + share (new .from) s (n .0) ≤ freeAt l (new .from) .0 + share (new .from) (old .from) (old .fen .0) + share (new .from) t (n .0)
+      new .fen .0 + fenFrom (new .from) s (n .0) ≤ freeOf l (new .from) .0 + fenFrom (new .from) (old .from) (old .fen .0) + fenFrom (new .from) t (n .0)
 
 -- the money of the event with entry e, by which a lot of record f has record f′
 abbrev pub Funded : List Account → Record → Entry → Record → Type 0

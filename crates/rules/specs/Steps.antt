@@ -11,7 +11,7 @@ use Rattle.rules.specs.declared.Step.the-variants.{Refused, Accepted}
 use Rattle.rules.specs.declared.View.{View}
 use Rattle.rules.specs.Effects.{ruleOf}
 use Rattle.rules.specs.Numbers.{firstNumber}
-use Rattle.rules.specs.View.{viewOf, recordAt}
+use Rattle.rules.specs.View.{viewOf, recordOfReceipt}
 
 -- a refusal with its number, or what the call does at its receipt, of record f
 unfoldable pub stepAt : View → Call → Record → Step
@@ -19,7 +19,7 @@ stepAt v c f = cond (eqb (firstNumber v c f) 0) (Accepted (ruleOf (c .kind) v c 
 
 -- on a zone
 abbrev pub stepOn : Zone → Call → Step
-stepOn z c = stepAt (viewOf z (c .account) (recordAt z (c .receipt))) c (recordAt z (c .receipt))
+stepOn z c = stepAt (viewOf z (c .account) (recordOfReceipt z (c .receipt))) c (recordOfReceipt z (c .receipt))
 
 -- 01's number for each case of a step (01 Forms 15)
 abbrev pub stepNumber : Step → ℕ

@@ -14,24 +14,24 @@ use Rattle.rules.specs.declared.View.{View}
 use Rattle.rules.specs.Tables.{nth}
 
 -- free money of account a; nobody has none
-unfoldable pub freeAt : List Account → ℕ → Fen
-freeAt l a = nth emptyAccount l a .free
+unfoldable pub freeOf : List Account → ℕ → Fen
+freeOf l a = nth emptyAccount l a .free
 
 -- and its frozen money
-unfoldable pub frozenAt : List Account → ℕ → Fen
-frozenAt l a = nth emptyAccount l a .frozen
+unfoldable pub frozenOf : List Account → ℕ → Fen
+frozenOf l a = nth emptyAccount l a .frozen
 
 -- the receipt of a number; 0 names none
-unfoldable pub receiptAt : List Receipt → ℕ → Receipt
-receiptAt l k = nth noReceipt l k
+unfoldable pub receiptOfNumber : List Receipt → ℕ → Receipt
+receiptOfNumber l k = nth noReceipt l k
 
 -- the record of a receipt's number
-abbrev pub recordAt : Zone → ℕ → Record
-recordAt z n = recordOf (receiptAt (z .receipts) n)
+abbrev pub recordOfReceipt : Zone → ℕ → Record
+recordOfReceipt z n = recordOf (receiptOfNumber (z .receipts) n)
 
 -- the ask of a contract; contract 0 has none
-unfoldable pub askAt : List YuanPerTonne → ℕ → YuanPerTonne
-askAt l k = nth noAsk l k
+unfoldable pub askOf : List YuanPerTonne → ℕ → YuanPerTonne
+askOf l k = nth noAsk l k
 
 -- of a zone, for a call of account a at a lot of record f: the clock, the ask of the lot's contract, the free money of those concerned
 -- and the total
@@ -40,11 +40,11 @@ viewOf z a f =
     record {
       day = z .day;
       afternoon = z .afternoon;
-      ask = askAt (z .asks) (f .contract);
+      ask = askOf (z .asks) (f .contract);
       free = record {
-        caller = freeAt (z .accounts) a;
-        buyer = freeAt (z .accounts) (f .buyer);
-        seller = freeAt (z .accounts) (f .seller);
+        caller = freeOf (z .accounts) a;
+        buyer = freeOf (z .accounts) (f .buyer);
+        seller = freeOf (z .accounts) (f .seller);
       };
       total = z .total;
     }

@@ -37,7 +37,7 @@ use zone::Record;
 const PLACES: usize = ACCOUNTS + 1;
 
 // One fen above the limit: what a sum that passes the limit is cut to.
-const ABOVE_LIMIT: u64 = MONEY_LIMIT + 1;
+const LIMIT_PLUS_ONE: u64 = MONEY_LIMIT + 1;
 
 // The zero bytes behind the phase.
 const FIRST_ZERO: usize = PHASE_PLACE + 1;
@@ -82,8 +82,8 @@ fn add_up_to(a: Fen, b: Fen) -> Fen
     requires { ⌜ a .0 ≤ moneyLimit + 1 ⌝ }
     ensures { λ r. ⌜ r ≡ fen (min (a .0 + b .0) (moneyLimit + 1)) ⌝ }
 {
-    if ABOVE_LIMIT - a.0 < b.0 {
-        return Fen(ABOVE_LIMIT);
+    if LIMIT_PLUS_ONE - a.0 < b.0 {
+        return Fen(LIMIT_PLUS_ONE);
     }
     Fen(a.0 + b.0)
 }
@@ -146,7 +146,7 @@ fn judge_records(image: &[u8]) -> Records
 }
 
 // Whether each frozen is what the lots hold from that account.
-fn frozen_ok(image: &[u8], sums: [Fen; PLACES]) -> bool
+fn frozen_matches(image: &[u8], sums: [Fen; PLACES]) -> bool
     requires { ⌜ length (now image) ≡ imageLength ⌝ }
     ensures { λ r. ⌜ r ≡ frozenMatches (accountsIn (now (image .entry))) sums ⌝ }
 {
@@ -176,7 +176,7 @@ pub fn image_ok(image: &[u8]) -> bool
         & (day <= LAST_DAY)
         & asks_ok(image)
         & records.ok
-        & frozen_ok(image, sums)
+        & frozen_matches(image, sums)
         & (total.0 == money_in(image).0)
         & (total.0 <= MONEY_LIMIT);
     header & books

@@ -33,12 +33,12 @@ abbrev pub holdOf : Record → Hold
 holdOf r = record { from = r .buyer; fen = held r }
 
 -- n for account a, nothing for any other account x
-unfoldable pub share : ℕ → ℕ → ℕ → ℕ
-share x a n = cond (eqb x a) n 0
+unfoldable pub fenFrom : ℕ → ℕ → ℕ → ℕ
+fenFrom x a n = cond (eqb x a) n 0
 
 -- what the lot holds from account x
 unfoldable pub heldFrom : ℕ → Record → ℕ
-heldFrom x r = share x (holdOf r .from) (holdOf r .fen .0)
+heldFrom x r = fenFrom x (holdOf r .from) (holdOf r .fen .0)
 
 -- what the lots hold from account x; `rec` reads an element of the list as a record
 module _ {A : Type 0} (rec : A → Record) where

@@ -20,7 +20,7 @@ use Rattle.image.specs.Image.{validImage, decode, encode}
 use Rattle.image.specs.Laws.RoundTrip.{decode-encode, valid-encode, valid-decode, fresh-valid, fresh-sized, decode-sized}
 use Rattle.answers.specs.Buffers.{callLength, answerLength, callIn, entriesIn, acceptedAnswer}
 use Rattle.answers.specs.Laws.ReadBack.{Numbered, entries-back}
-use Rattle.crz.specs.Returned.{behindBuffers, callNumber, recordNumber, Left, refused, accepted}
+use Rattle.crz.specs.Returned.{afterBufferNumbers, callNumber, recordNumber, Left, refused, accepted}
 use Rattle.claims.specs.Demand.{Exchange, MadeFrom, noCalls, next, fed, KeepsImage, ImageKept, StaysValid, FreshIsValid, Demand3}
 use Rattle.claims.specs.History.{acceptedWith}
 use Rattle.claims.specs.Kept.{NumbersFit, Ascending, Kept}
@@ -65,8 +65,8 @@ record Zero (image : List ℕ) (c : Call) : Type 0 where
   valid : validImage image ≡ true
   number : numberOn (decode image) c ≡ 0
 
-behind-0 : (image answer : List ℕ) (n : ℕ) → 0 ≡ behindBuffers image answer n → (validImage image ≡ true) × (n ≡ 0)
-unfolding behindBuffers
+behind-0 : (image answer : List ℕ) (n : ℕ) → 0 ≡ afterBufferNumbers image answer n → (validImage image ≡ true) × (n ≡ 0)
+unfolding afterBufferNumbers
 behind-0 image answer n h = go (ltb (length answer) answerLength) (validImage image) h
   where
     go : (a b : Bool) → 0 ≡ cond a 1 (cond (not b) 2 n) → (b ≡ true) × (n ≡ 0)
@@ -78,7 +78,7 @@ zero-for : (image call answer : List ℕ) → 0 ≡ recordNumber image call answ
 unfolding recordNumber callNumber
 zero-for image call answer h = go (eqb (length call) callLength) h
   where
-    go : (b : Bool) → 0 ≡ cond b (behindBuffers image answer (numberOn (decode image) (callIn call))) (behindBuffers image answer 3) → Zero image (callIn call)
+    go : (b : Bool) → 0 ≡ cond b (afterBufferNumbers image answer (numberOn (decode image) (callIn call))) (afterBufferNumbers image answer 3) → Zero image (callIn call)
     go true h = let t = behind-0 image answer _ h in record { valid = t .0; number = t .1 }
     go false h = absurd (let t = behind-0 image answer 3 h .1 in omega arith)
 

@@ -14,19 +14,19 @@ use Rattle.units.specs.Payments.{fen, deposit, firstPayment, restPayment}
 use Rattle.units.specs.Ranges.{within}
 use Rattle.zone.specs.declared.Receipt.{Receipt}
 use Rattle.zone.specs.declared.Record.{Record}
-use Rattle.zone.specs.Held.{full, rest, held, share, heldFrom, heldSum}
+use Rattle.zone.specs.Held.{full, rest, held, fenFrom, heldFrom, heldSum}
 use Rattle.zone.specs.Record.{recordOf}
 use Rattle.zone.specs.Valid.{noReceipt}
 use Rattle.rules.specs.declared.Entry.{Entry}
 use Rattle.rules.specs.Events.{moneyOf}
-use Rattle.rules.specs.Laws.Moves.{share-zero}
-use Rattle.claims.specs.History.{oneOf, fenOf, Past, Table, transferred, isPaying, heldIn, Exact, heldOver, belongs}
+use Rattle.rules.specs.Laws.Moves.{fenFrom-zero}
+use Rattle.claims.specs.History.{oneOf, fenOf, Past, HistoryTable, transferred, afterSettlement, heldIn, Exact, heldOver, belongs}
 
 -- ── The history's own words are the rules' ─────────────────────────────────────────────────────
 
-pub fen-share : (x a n : ℕ) → fenOf x a n ≡ share x a n
-unfolding fenOf share
-fen-share x a n = refl
+pub fen-same : (x a n : ℕ) → fenOf x a n ≡ fenFrom x a n
+unfolding fenOf fenFrom
+fen-same x a n = refl
 
 pub transferred-money : (e : Entry) → transferred e ≡ moneyOf e .0
 unfolding transferred moneyOf
@@ -37,7 +37,7 @@ transferred-money e = go (oneOf (e .outcome) (9 ∷ 11 ∷ 12 ∷ 15 ∷ []))
     go false = refl
 
 pub fen-zero : (x a : ℕ) → fenOf x a 0 ≡ 0
-fen-zero x a = fen-share x a 0 ∙ share-zero x a
+fen-zero x a = fen-same x a 0 ∙ fenFrom-zero x a
 
 -- ── What the table knows ───────────────────────────────────────────────────────────────────────
 
@@ -59,7 +59,7 @@ pub record Own (b : ℕ) (p : Past) : Type 0 where
 -- it holds what is left of n, of which m is paid, from b
 pub record Left (b n m : ℕ) (p : Past) : Type 0 where
   pub last : oneOf (p .last) (4 ∷ 6 ∷ 7 ∷ []) ≡ false
-  pub paying : isPaying p ≡ true
+  pub paying : afterSettlement p ≡ true
   pub buyer : p .buyer ≡ b
   pub full : p .full ≡ n
   pub since : p .since ≡ m
@@ -119,11 +119,11 @@ at-held (suc (suc (suc (suc (suc (suc (suc n))))))) f p k x =
     rw (lt-leb s 4 (omega arith), le-leb 2 s (omega arith), ne-eqb s 5 (omega arith), ne-eqb s 6 (omega arith)) (k x ∙ sym (fen-zero x (f .buyer)))
 
 pub known-held : {f : Record} {p : Past} → Known f p → (x : ℕ) → heldIn x p ≡ heldFrom x f
-unfolding heldFrom held fenOf share
+unfolding heldFrom held fenOf fenFrom
 known-held {f} {p} K = at-held (f .state) f p (K .lot)
 
 -- the table's sum over lots from n on is the lots' sum
-pub known-sum : (x : ℕ) (l : List Receipt) (n : ℕ) (h : Table) → ((k : ℕ) → k < length l → Known (recordOf (getD l k noReceipt)) (h .lots (n + k))) →
+pub known-sum : (x : ℕ) (l : List Receipt) (n : ℕ) (h : HistoryTable) → ((k : ℕ) → k < length l → Known (recordOf (getD l k noReceipt)) (h .lots (n + k))) →
     heldOver x (length l) n h ≡ heldSum recordOf x l
 unfolding heldOver heldSum
 known-sum x [] n h f = refl

@@ -10,7 +10,7 @@ use borrow.Author.Tests.{eq-eqb, ne-eqb}
 use Rattle.rules.specs.declared.Call.{Call}
 use Rattle.rules.specs.declared.Entry.{Entry}
 use Rattle.rules.specs.Order.{Permuted, none, keep, swap, via}
-use Rattle.claims.specs.History.{Table, remember, enter, enterAll, Fair, EachFair}
+use Rattle.claims.specs.History.{HistoryTable, withEntry, enter, enterAll, OwnAct, EachOwnAct}
 use Rattle.claims.specs.Kept.{Ascending}
 
 -- ── Different lots ─────────────────────────────────────────────────────────────────────────────
@@ -49,19 +49,19 @@ permuted-apart (via p q) a = permuted-apart q (permuted-apart p a)
 -- ── Two entries ────────────────────────────────────────────────────────────────────────────────
 
 -- an entry leaves the other lots
-pub other-lot : (c : Call) (e : Entry) (h : Table) (k : ℕ) → k ≢ e .lot → enter c e h .lots k ≡ h .lots k
+pub other-lot : (c : Call) (e : Entry) (h : HistoryTable) (k : ℕ) → k ≢ e .lot → enter c e h .lots k ≡ h .lots k
 unfolding enter
 other-lot c e h k n = rw (ne-eqb k (e .lot) n)
 
-pub same-lot : (c : Call) (e : Entry) (h : Table) → enter c e h .lots (e .lot) ≡ remember c e (h .lots (e .lot))
+pub same-lot : (c : Call) (e : Entry) (h : HistoryTable) → enter c e h .lots (e .lot) ≡ withEntry c e (h .lots (e .lot))
 unfolding enter
 same-lot c e h = rw (eq-eqb (e .lot) (e .lot) refl)
 
-module _ (c : Call) (a b : Entry) (h : Table) (n : b .lot ≢ a .lot) where
-  abbrev ab : Table
+module _ (c : Call) (a b : Entry) (h : HistoryTable) (n : b .lot ≢ a .lot) where
+  abbrev ab : HistoryTable
   ab = enter c b (enter c a h)
 
-  abbrev ba : Table
+  abbrev ba : HistoryTable
   ba = enter c a (enter c b h)
 
   lots-swap : (k : ℕ) → ab .lots k ≡ ba .lots k
@@ -71,9 +71,9 @@ module _ (c : Call) (a b : Entry) (h : Table) (n : b .lot ≢ a .lot) where
       go (yes p) (yes q) = absurd (n (sym q ∙ p))
       go (yes p) (no q) =
           rw p (other-lot c b (enter c a h) (a .lot) (λ e. n (sym e)) ∙ same-lot c a h
-          ∙ sym (same-lot c a (enter c b h) ∙ ap (remember c a) (other-lot c b h (a .lot) (λ e. n (sym e)))))
+          ∙ sym (same-lot c a (enter c b h) ∙ ap (withEntry c a) (other-lot c b h (a .lot) (λ e. n (sym e)))))
       go (no p) (yes q) =
-          rw q (same-lot c b (enter c a h) ∙ ap (remember c b) (other-lot c a h (b .lot) n)
+          rw q (same-lot c b (enter c a h) ∙ ap (withEntry c b) (other-lot c a h (b .lot) n)
           ∙ sym (other-lot c a (enter c b h) (b .lot) n ∙ same-lot c b h))
       go (no p) (no q) =
           other-lot c b (enter c a h) k q ∙ other-lot c a h k p ∙ sym (other-lot c a (enter c b h) k p ∙ other-lot c b h k q)
@@ -100,7 +100,7 @@ module _ (c : Call) (a b : Entry) (h : Table) (n : b .lot ≢ a .lot) where
 -- ── A whole answer ─────────────────────────────────────────────────────────────────────────────
 
 -- the table is the same
-pub permuted-enter : (c : Call) {es fs : List Entry} → Permuted es fs → Apart es → (h : Table) → enterAll c es h ≡ enterAll c fs h
+pub permuted-enter : (c : Call) {es fs : List Entry} → Permuted es fs → Apart es → (h : HistoryTable) → enterAll c es h ≡ enterAll c fs h
 unfolding enterAll
 permuted-enter c none a h = refl
 permuted-enter c (keep {e = e} p) a h = permuted-enter c p (a .1) (enter c e h)
@@ -108,15 +108,15 @@ permuted-enter c (swap {a = x} {b = y} {es = es}) a h = ap (enterAll c es) (ente
 permuted-enter c (via p q) a h = permuted-enter c p a h ∙ permuted-enter c q (permuted-apart p a) h
 
 -- and each strike is as fair
-pub permuted-fair : (c : Call) {es fs : List Entry} → Permuted es fs → Apart es → (h : Table) → EachFair c es h → EachFair c fs h
-unfolding EachFair
+pub permuted-fair : (c : Call) {es fs : List Entry} → Permuted es fs → Apart es → (h : HistoryTable) → EachOwnAct c es h → EachOwnAct c fs h
+unfolding EachOwnAct
 permuted-fair c none a h f = tt
 permuted-fair c (keep {e = e} p) a h f = (f .0, permuted-fair c p (a .1) (enter c e h) (f .1))
 permuted-fair c (swap {a = x} {b = y} {es = es}) a h f = (
-  subst (Fair c y) (other-lot c x h (y .lot) (a .0 .0)) (f .1 .0),
+  subst (OwnAct c y) (other-lot c x h (y .lot) (a .0 .0)) (f .1 .0),
   (
-    subst (Fair c x) (sym (other-lot c y h (x .lot) (λ e. a .0 .0 (sym e)))) (f .0),
-    subst (EachFair c es) (enter-swap c x y h (a .0 .0)) (f .1 .1),
+    subst (OwnAct c x) (sym (other-lot c y h (x .lot) (λ e. a .0 .0 (sym e)))) (f .0),
+    subst (EachOwnAct c es) (enter-swap c x y h (a .0 .0)) (f .1 .1),
   ),
 )
 permuted-fair c (via p q) a h f = permuted-fair c q (permuted-apart p a) h (permuted-fair c p a h f)

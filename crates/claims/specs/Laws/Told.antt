@@ -37,15 +37,15 @@ use Rattle.rules.specs.Laws.Passed.{in-state, ranges}
 use Rattle.rules.specs.Laws.Receipts.{PartPaid, part-paid, partOf, buyer-in}
 use Rattle.rules.specs.Laws.Tables.{among-one}
 use Rattle.rules.specs.Tables.{among}
-use Rattle.rules.specs.View.{viewOf, recordAt}
-use Rattle.claims.specs.History.{Past, fenOf, remember, Fair, noStrike, ownCall, ownBid, belongs}
+use Rattle.rules.specs.View.{viewOf, recordOfReceipt}
+use Rattle.claims.specs.History.{Past, fenOf, withEntry, OwnAct, noStrike, ownCall, ownBid, belongs}
 use Rattle.claims.specs.Laws.Knows.{fen-zero, Left, KnowsAt, Rest, Known, known-at}
 
 -- ── What a rule has to show ────────────────────────────────────────────────────────────────────
 
 pub record Told (c : Call) (p : Past) (e : Entry) (r′ : Receipt) : Type 0 where
-  pub known : Known (recordOf r′) (remember c e p)
-  pub fair : Fair c e p
+  pub known : Known (recordOf r′) (withEntry c e p)
+  pub fair : OwnAct c e p
 
 -- ── Whom a receipt belongs to ──────────────────────────────────────────────────────────────────
 
@@ -65,8 +65,8 @@ module _ (p : Past) where
 -- ── Each rule ──────────────────────────────────────────────────────────────────────────────────
 
 -- an event that is no strike
-quiet : {c : Call} {p : Past} {e : Entry} {r′ : Receipt} → e .outcome ≢ 6 → KnowsAt (recordOf r′ .state) (recordOf r′) (remember c e p) →
-    Rest (recordOf r′ .owner) (remember c e p) → On (Told c p) (Event e r′)
+quiet : {c : Call} {p : Past} {e : Entry} {r′ : Receipt} → e .outcome ≢ 6 → KnowsAt (recordOf r′ .state) (recordOf r′) (withEntry c e p) →
+    Rest (recordOf r′ .owner) (withEntry c e p) → On (Told c p) (Event e r′)
 quiet n k o = event (record { known = record { lot = k; rest = o }; fair = noStrike n })
 
 module _ (c : Call) (v : View) (p : Past) (n : ℕ) (f : Record) (K : Known f p) where
@@ -95,7 +95,7 @@ module _ (c : Call) (v : View) (p : Past) (n : ℕ) (f : Record) (K : Known f p)
   unfolding withdrawListing recordOf
   withdrawListing-told = quiet (omega arith) (λ x. refl) (as-was refl refl refl (omega arith))
 
-  struck-told : (b : Bid) → Fair c (entryOf n 6 (f .seller) (b .buyer) (b .price .0)) p → On (Told c p) (bidStruck v n f b)
+  struck-told : (b : Bid) → OwnAct c (entryOf n 6 (f .seller) (b .buyer) (b .price .0)) p → On (Told c p) (bidStruck v n f b)
   unfolding recordOf
   struck-told b h =
       event (record {
@@ -133,7 +133,7 @@ module _ (c : Call) (v : View) (p : Past) (n : ℕ) (f : Record) (K : Known f p)
       quiet (omega arith) (record { last = refl; bidder = known-at K 3 e .bidder }) (as-was refl refl refl (omega arith))
 
   -- the settled buyer owns the receipt, which was registered
-  settled : recordValid f ≡ true → f .state ≡ 4 → Rest (f .buyer) (remember c (entryOf n 8 (f .seller) (f .buyer) (full f .0)) p)
+  settled : recordValid f ≡ true → f .state ≡ 4 → Rest (f .buyer) (withEntry c (entryOf n 8 (f .seller) (f .buyer) (full f .0)) p)
   settled ok s =
       let some : f .buyer ≢ 0 = λ e. omega (arith, buyer-in f ok (omega arith) .low) in
       let there : p .registrant ≢ 0 = registered p λ e. owner-some f ok (omega arith) (K .rest .owner ∙ e) in
@@ -146,7 +146,7 @@ module _ (c : Call) (v : View) (p : Past) (n : ℕ) (f : Record) (K : Known f p)
   closeLot-told : recordValid f ≡ true → On (Told c p) (closeLot v n f)
   unfolding closeLot recordOf full
   closeLot-told ok =
-      only (among (f .state) (3 ∷ 4 ∷ 7 ∷ []) && leb (f .due) (v .day)) _ λ _.
+      only (leb (f .due) (v .day)) _ λ _.
       chosen (among (f .state) (4 ∷ [])) _ _
       (λ t. chosen (hasMoney v f) _ _
       (λ _. quiet (omega arith) (record { last = refl; paying = refl; buyer = refl; full = refl; since = refl }) (settled ok (among-one 4 t)))
@@ -213,14 +213,14 @@ module _ (c : Call) (v : View) (p : Past) (n : ℕ) (f : Record) (K : Known f p)
 -- ── Every rule ─────────────────────────────────────────────────────────────────────────────────
 
 -- lot n of a valid zone, of which the table knows p
-module _ (c : Call) (z : Zone) (p : Past) (n : ℕ) (ok : recordValid (recordAt z n) ≡ true) (K : Known (recordAt z n) p) where
+module _ (c : Call) (z : Zone) (p : Past) (n : ℕ) (ok : recordValid (recordOfReceipt z n) ≡ true) (K : Known (recordOfReceipt z n) p) where
   abbrev ToldAt : ℕ → Type 0
   ToldAt k = Visit (withKind c k) z n → On (Told (withKind c k) p) (ruleAt (withKind c k) z n)
 
   by-rule : ByKind ToldAt
   unfolding ruleOf noRule
   by-rule =
-      let f : Record = recordAt z n in
+      let f : Record = recordOfReceipt z n in
       let v : View = viewOf z (c .account) f in
       record {
         payIn = λ _. none;

@@ -22,10 +22,10 @@ use Rattle.rules.specs.Laws.Good.{Good, good-of, valid-at}
 use Rattle.rules.specs.Laws.Keeps.{opening-good}
 use Rattle.rules.specs.Laws.Links.{Linked, Walk, good-walk}
 use Rattle.rules.specs.Steps.{numberOn}
-use Rattle.rules.specs.View.{receiptAt}
+use Rattle.rules.specs.View.{receiptOfNumber}
 use Rattle.rules.specs.Order.{AnswerOrder, asRuled, anyOrder}
 use Rattle.claims.specs.Demand.{Holds}
-use Rattle.claims.specs.History.{Reply, refusedWith, acceptedWith, Table, enter, enterAll, cash, history, EachFair, EachStrikeFair}
+use Rattle.claims.specs.History.{Reply, refusedWith, acceptedWith, HistoryTable, enter, enterAll, paidInOrOut, history, EachOwnAct, EachStrikeOwnAct}
 use Rattle.claims.specs.Kept.{Kept}
 use Rattle.claims.specs.Laws.InStep.{InStep, event-kept, opening-kept, ending-kept, fresh-in-step, sum-kept}
 use Rattle.claims.specs.Laws.Kept.{keeps-valid}
@@ -34,17 +34,17 @@ use Rattle.claims.specs.Laws.Order.{Apart, ascending-apart, permuted-ent
 use Rattle.claims.specs.Laws.Told.{Told, link-told}
 
 -- the entries es of call c bring the table h into step with the zone z, and each strike among them is fair
-pub record Fed (c : Call) (es : List Entry) (z : Zone) (h : Table) : Type 0 where
+pub record Fed (c : Call) (es : List Entry) (z : Zone) (h : HistoryTable) : Type 0 where
   pub inStep : InStep z (enterAll c es h)
-  pub fair : EachFair c es h
+  pub fair : EachOwnAct c es h
 
 -- ── One call ───────────────────────────────────────────────────────────────────────────────────
 
 module _ (c : Call) where
   -- one event, then the others
   link-fed : {lo : ℕ} {z : Zone} {n : ℕ} {e : Entry} {r : Receipt} {es : List Entry} {last : Zone} → Linked c lo z n e r →
-      ((h : Table) → InStep (posted z e r) h → Fed c es last h) → (h : Table) → InStep z h → Fed c (e ∷ es) last h
-  unfolding enterAll EachFair
+      ((h : HistoryTable) → InStep (posted z e r) h → Fed c es last h) → (h : HistoryTable) → InStep z h → Fed c (e ∷ es) last h
+  unfolding enterAll EachOwnAct
   link-fed {z = z} {n = n} {e = e} {r = r} L others h I =
       let low : 0 < e .lot = rw (L .fit .entry .lot) (L .low) in
       let high : e .lot ≤ receiptCount = rw (L .fit .entry .lot) (L .high) in
@@ -55,23 +55,23 @@ module _ (c : Call) where
       let K = others (enter c e h) (event-kept c z h e r (L .good .sized) low high I F T) in
       record { inStep = K .inStep; fair = (T .fair, K .fair) }
 
-  feeds : Walk c (λ lo z es last. (h : Table) → InStep z h → Fed c es last h)
-  unfolding enterAll EachFair
+  feeds : Walk c (λ lo z es last. (h : HistoryTable) → InStep z h → Fed c es last h)
+  unfolding enterAll EachOwnAct
   feeds = record { end = λ G h I. record { inStep = I; fair = tt }; step = λ L others. link-fed L others }
 
 -- opening, events, ending
-call-fed : (z : Zone) (c : Call) (h : Table) → numberOn z c ≡ 0 → Good z → InStep z h →
-    Fed c (effect z c .entries) (effect z c .zone) (cash c h)
+call-fed : (z : Zone) (c : Call) (h : HistoryTable) → numberOn z c ≡ 0 → Good z → InStep z h →
+    Fed c (effect z c .entries) (effect z c .zone) (paidInOrOut c h)
 call-fed z c h q G I =
     let d = effect z c in
     let T : Taken z c d = taken z c q in
-    let J : InStep (opening c z) (cash c h) = opening-kept c z h (G .sized) I (T .passed) in
-    let K : Fed c (d .entries) (T .last) (cash c h) = good-walk (feeds c) (T .chain) (opening-good z G c (T .passed)) (cash c h) J in
-    let E : InStep (ending c (T .last)) (enterAll c (d .entries) (cash c h)) = ending-kept c (T .last) _ (K .inStep) in
-    record { inStep = subst (λ (y : Zone). InStep y (enterAll c (d .entries) (cash c h))) (sym (T .zone)) E; fair = K .fair }
+    let J : InStep (opening c z) (paidInOrOut c h) = opening-kept c z h (G .sized) I (T .passed) in
+    let K : Fed c (d .entries) (T .last) (paidInOrOut c h) = good-walk (feeds c) (T .chain) (opening-good z G c (T .passed)) (paidInOrOut c h) J in
+    let E : InStep (ending c (T .last)) (enterAll c (d .entries) (paidInOrOut c h)) = ending-kept c (T .last) _ (K .inStep) in
+    record { inStep = subst (λ (y : Zone). InStep y (enterAll c (d .entries) (paidInOrOut c h))) (sym (T .zone)) E; fair = K .fair }
 
 -- a quote's entries in any order
-ordered-fed : {c : Call} {es fs : List Entry} {z : Zone} {h : Table} → AnswerOrder c es fs → Apart es → Fed c es z h → Fed c fs z h
+ordered-fed : {c : Call} {es fs : List Entry} {z : Zone} {h : HistoryTable} → AnswerOrder c es fs → Apart es → Fed c es z h → Fed c fs z h
 ordered-fed asRuled A K = K
 ordered-fed {c} {es} {fs} {z} {h} (anyOrder e p) A K =
     record { inStep = subst (InStep z) (permuted-enter c p A h) (K .inStep); fair = permuted-fair c p A h (K .fair) }
@@ -83,25 +83,25 @@ pub record After (list : List (Call × Reply)) (z : Zone) : Type 0 where
   pub sized : Sized z
   pub valid : validZone z ≡ true
   pub inStep : InStep z (history list)
-  pub fair : EachStrikeFair list
+  pub fair : EachStrikeOwnAct list
 
 -- a refused call changes nothing
 pub after-refused : {list : List (Call × Reply)} {z : Zone} (c : Call) (n : ℕ) → After list z → After ((c, refusedWith n) ∷ list) z
-unfolding history EachStrikeFair
+unfolding history EachStrikeOwnAct
 after-refused c n A = record { sized = A .sized; valid = A .valid; inStep = A .inStep; fair = (tt, A .fair) }
 
 pub after-accepted : {list : List (Call × Reply)} {z : Zone} (c : Call) (es : List Entry) → After list z → numberOn z c ≡ 0
     → AnswerOrder c (effect z c .entries) es → After ((c, acceptedWith es) ∷ list) (effect z c .zone)
-unfolding history EachStrikeFair
+unfolding history EachStrikeOwnAct
 after-accepted {list} {z} c es A q p =
     let d = effect z c in
     let W : Kept d = keeps-valid z c (A .sized) (A .valid) q in
     let F = call-fed z c (history list) q (good-of z (A .sized) (A .valid)) (A .inStep) in
-    let K : Fed c es (d .zone) (cash c (history list)) = ordered-fed p (ascending-apart 1 (d .entries) (W .ascending)) F in
+    let K : Fed c es (d .zone) (paidInOrOut c (history list)) = ordered-fed p (ascending-apart 1 (d .entries) (W .ascending)) F in
     record { sized = W .sized; valid = W .valid; inStep = K .inStep; fair = (K .fair, A .fair) }
 
 pub after-fresh : After [] freshZone
-unfolding history EachStrikeFair freshZone
+unfolding history EachStrikeOwnAct freshZone
 after-fresh =
     record { sized = record { accounts = refl; receipts = refl; asks = refl }; valid = fresh-valid; inStep = fresh-in-step; fair = tt }
 
@@ -128,6 +128,6 @@ holds list z A =
       books = λ x a b. A .inStep .money x a;
       frozen = λ x a b. G .frozen x a b ∙ sym (sum-kept z (history list) (A .sized) (A .inStep) x);
       exact = λ k a b. exact (A .inStep .linked k a b);
-      owners = λ k a b. sym (owner-of (receiptAt (z .receipts) k)) ∙ A .inStep .linked k a b .rest .owner;
+      owners = λ k a b. sym (owner-of (receiptOfNumber (z .receipts) k)) ∙ A .inStep .linked k a b .rest .owner;
       strikes = A .fair;
     }

@@ -1,20 +1,20 @@
 -- The case of the lot tells the state.
-use mathlib.Core.Bool.{false, and-false}
+use mathlib.Core.Bool.{false}
 use mathlib.Core.List.{List, [], _∷_}
 use mathlib.Core.Path.{_≡_, refl, _∙_}
 use Prim.Native.Nat.{ℕ}
 use borrow.Author.Tests.{le-leb, lt-leb}
+use lib.Dec.{eqb}
 use Rattle.rules.specs.Effects.{closeLot}
 use Rattle.rules.specs.Laws.Cases.{state-among}
 use Rattle.rules.specs.Laws.Tables.{among-each, among-one}
-use Rattle.rules.specs.Tables.{among}
 use borrow.Author.Needs.{needs}
 use Rattle.closes.proofs.close_at.Statement.{statement}
 use Rattle.closes.proofs.close_at.Tie as tie
 
 returns : tie.Need-returns
 unfolding closeLot
-returns c = rw (lt-leb _ _ (c .if1 .taken), and-false)
+returns c = rw (lt-leb _ _ (c .if1 .taken))
 
 receipt-of-requires : tie.Need-receipt-of-requires
 receipt-of-requires c κs = search needs
@@ -61,9 +61,9 @@ returns-5 c =
     let f = c .before .before .before .before .before .args .f in
     let others : List ℕ = 0 ∷ 1 ∷ 2 ∷ 5 ∷ 6 ∷ [] in
     let other = state-among f (c .before .receipt-of .result) (c .before .receipt-of .ensures) (c .before .before .before .before .before .pre .valid) others (c .match .keys4) in
-    let none : among (f .state) (3 ∷ 4 ∷ 7 ∷ []) ≡ false =
-    among-each (λ n. among n (3 ∷ 4 ∷ 7 ∷ []) ≡ false) (f .state) others (refl, (refl, (refl, (refl, (refl, tt))))) other in
-    rw none
+    let none = among-each (λ s. (eqb s 4 ≡ false) × (eqb s 3 ≡ false) × (eqb s 7 ≡ false)) (f .state) others
+    ((refl, refl, refl), ((refl, refl, refl), ((refl, refl, refl), ((refl, refl, refl), ((refl, refl, refl), tt))))) other in
+    rw (none .0, none .1, none .2, le-leb _ _ (c .before .before .if1 .left))
 
 pub close-at-spec : {M : Type 1} → statement M
 close-at-spec =

@@ -3,7 +3,7 @@ use mathlib.Core.Bool.{false}
 use mathlib.Core.List.{List, [], _∷_}
 use mathlib.Core.Path.{_≡_, refl, _∙_}
 use Prim.Native.Nat.{ℕ}
-use Rattle.rules.specs.Effects.{dayCloseLot, withdrawListing}
+use Rattle.rules.specs.Effects.{dayCloseLot}
 use Rattle.rules.specs.Laws.Cases.{state-among}
 use Rattle.rules.specs.Laws.Tables.{among-each}
 use Rattle.rules.specs.Tables.{among}
@@ -18,7 +18,7 @@ end-listing-requires : tie.Need-end-listing-requires
 end-listing-requires c κs = search needs
 
 returns : tie.Need-returns
-unfolding dayCloseLot withdrawListing
+unfolding dayCloseLot
 returns c =
     let f = c .before .before .before .args .f in
     let offered = state-among f (c .before .before .receipt-of .result) (c .before .before .receipt-of .ensures) (c .before .before .before .pre) (1 ∷ 2 ∷ []) (c .before .match .keys1) in

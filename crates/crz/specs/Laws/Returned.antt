@@ -16,22 +16,22 @@ use Rattle.rules.specs.Order.{asRuled}
 use Rattle.rules.specs.Steps.{stepAt, numberOn}
 use Rattle.image.specs.Image.{validImage, decode, encode}
 use Rattle.answers.specs.Buffers.{callLength, answerLength, callIn, noCall, callOrNone, refusedAnswer, acceptedAnswer}
-use Rattle.crz.specs.Returned.{behindBuffers, callNumber, recordNumber, refusal, Left, refused, accepted, ReturnedWith, Returned}
+use Rattle.crz.specs.Returned.{afterBufferNumbers, callNumber, recordNumber, refusal, Left, refused, accepted, ReturnedWith, Returned}
 
 -- ── The number ─────────────────────────────────────────────────────────────────────────────────
 
 module _ (image answer : List ℕ) (n : ℕ) where
-  pub short-number : length answer < answerLength → behindBuffers image answer n ≡ 1
-  unfolding behindBuffers
+  pub short-number : length answer < answerLength → afterBufferNumbers image answer n ≡ 1
+  unfolding afterBufferNumbers
   short-number h = rw (lt-ltb _ _ h)
 
   module _ (long : answerLength ≤ length answer) where
-    pub image-number : validImage image ≡ false → behindBuffers image answer n ≡ 2
-    unfolding behindBuffers
+    pub image-number : validImage image ≡ false → afterBufferNumbers image answer n ≡ 2
+    unfolding afterBufferNumbers
     image-number v = rw (le-ltb _ _ long, v)
 
-    pub call-number : validImage image ≡ true → behindBuffers image answer n ≡ n
-    unfolding behindBuffers
+    pub call-number : validImage image ≡ true → afterBufferNumbers image answer n ≡ n
+    unfolding afterBufferNumbers
     call-number v = rw (le-ltb _ _ long, v)
 
 -- the same of a call given by its fields
@@ -86,13 +86,13 @@ no-call-number : (z : Zone) → numberOn z noCall ≡ 3
 unfolding numberOn stepAt firstNumber illFormed
 no-call-number z = refl
 
-no-call-with : (image answer : List ℕ) → callNumber image noCall answer ≡ behindBuffers image answer 3
+no-call-with : (image answer : List ℕ) → callNumber image noCall answer ≡ afterBufferNumbers image answer 3
 unfolding callNumber
-no-call-with image answer = ap (behindBuffers image answer) (no-call-number (decode image))
+no-call-with image answer = ap (afterBufferNumbers image answer) (no-call-number (decode image))
 
 -- 3 is refused, if nothing before it is
-never-done : (image answer : List ℕ) (r : ℕ) → r ≡ behindBuffers image answer 3 → r ≡ 0 → ⊥
-unfolding behindBuffers
+never-done : (image answer : List ℕ) (r : ℕ) → r ≡ afterBufferNumbers image answer 3 → r ≡ 0 → ⊥
+unfolding afterBufferNumbers
 never-done image answer r is z = go (ltb (length answer) answerLength) (validImage image) (sym z ∙ is)
   where
     go : (a b : Bool) → _≡_ {A = ℕ} 0 (cond a 1 (cond (not b) 2 3)) → ⊥
@@ -115,5 +115,5 @@ module _ (image call answer : List ℕ) (r : ℕ) (image′ answer′ : List ℕ
           → Returned image call answer r image′ answer′
       go true e R = record { is = R .is ∙ rw e; left = R .left }
       go false e R =
-          let is : r ≡ behindBuffers image answer 3 = R .is ∙ no-call-with image answer in
+          let is : r ≡ afterBufferNumbers image answer 3 = R .is ∙ no-call-with image answer in
           record { is = is ∙ rw e; left = left-same noCall (callIn call) (R .left) (never-done image answer r is) }

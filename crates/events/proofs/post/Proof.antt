@@ -13,18 +13,18 @@ use Rattle.image.specs.Laws.RoundTrip.{same-long}
 use Rattle.rules.specs.Events.{credit, debit, release, freeze, moneyOf, accountsAfter, posted}
 use Rattle.rules.specs.Laws.Tables.{put-index}
 use Rattle.rules.specs.Ready.{Funds}
-use Rattle.rules.specs.View.{recordAt}
+use Rattle.rules.specs.View.{recordOfReceipt}
 use Rattle.events.specs.Laws.Moved.{Changed, changed, encoded, record-valid, record-in-place}
 use borrow.Author.Needs.{needs}
 use Rattle.events.proofs.post.Statement.{statement}
 use Rattle.events.proofs.post.Tie as tie
 
 -- the record that was read is the lot's
-read : (c : tie.After-record-at) → c .record-at .result ≡ recordAt (decode (now (c .before .before .before .before .args .image))) (c .before .before .before .before .args .e .lot)
+read : (c : tie.After-record-at) → c .record-at .result ≡ recordOfReceipt (decode (now (c .before .before .before .before .args .image))) (c .before .before .before .before .args .e .lot)
 read c = c .record-at .ensures ∙ record-in-place _ (c .before .before .before .before .pre .0) (c .before .before .before .before .pre .1 .fits) (c .before .before .before .before .args .e .lot) (c .before .before .before .before .pre .1 .low) (c .before .before .before .before .pre .1 .high)
 
 -- what the lot held, and what it holds after
-held : (c : tie.After-hold-of) → c .hold-of .result ≡ holdOf (recordAt (decode (now (c .before .before .before .before .before .args .image))) (c .before .before .before .before .before .args .e .lot))
+held : (c : tie.After-hold-of) → c .hold-of .result ≡ holdOf (recordOfReceipt (decode (now (c .before .before .before .before .before .args .image))) (c .before .before .before .before .before .args .e .lot))
 held c = c .hold-of .ensures ∙ ap holdOf (read (c .before))
 
 holds : (c : tie.After-hold-of2) → c .hold-of2 .result ≡ holdOf (recordOf (c .before .before .before .before .before .before .before .args .r))

@@ -14,14 +14,14 @@ use Rattle.rules.specs.Events.{credit, debit, release, freeze}
 use Rattle.rules.specs.Laws.Moves.{free-index, frozen-index, at-most}
 use Rattle.rules.specs.Laws.Tables.{put-index, put-none}
 use Rattle.rules.specs.Tables.{put}
-use Rattle.rules.specs.View.{freeAt, frozenAt}
+use Rattle.rules.specs.View.{freeOf, frozenOf}
 use Rattle.events.specs.Money.{changed}
 
 -- an account at its place in the table, in numbers
 pub record AtIndex (l : List Account) (a : ℕ) : Type 0 where
-  pub free : freeAt l a .0 ≡ getD l (a - 1) emptyAccount .free .0
-  pub frozen : frozenAt l a .0 ≡ getD l (a - 1) emptyAccount .frozen .0
-  pub sum : freeAt l a .0 + frozenAt l a .0 ≤ allMoney l
+  pub free : freeOf l a .0 ≡ getD l (a - 1) emptyAccount .free .0
+  pub frozen : frozenOf l a .0 ≡ getD l (a - 1) emptyAccount .frozen .0
+  pub sum : freeOf l a .0 + frozenOf l a .0 ≤ allMoney l
 
 pub at-index : (l : List Account) (a : ℕ) → 0 < a → AtIndex l a
 at-index l a p =

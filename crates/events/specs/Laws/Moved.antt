@@ -26,19 +26,19 @@ use Rattle.rules.specs.Laws.Moves.{length-credit, length-debit, length-release,
 use Rattle.rules.specs.Laws.Tables.{length-put, nth-index, all-nth, all-put}
 use Rattle.rules.specs.Ready.{Funds}
 use Rattle.rules.specs.Tables.{put}
-use Rattle.rules.specs.View.{receiptAt, recordAt}
+use Rattle.rules.specs.View.{receiptOfNumber, recordOfReceipt}
 
 -- ── What stands in an image ────────────────────────────────────────────────────────────────────
 
 -- each record of a zone is valid
-pub record-valid : (z : Zone) → Fits z → (n : ℕ) → recordValid (recordAt z n) ≡ true
-unfolding receiptAt
+pub record-valid : (z : Zone) → Fits z → (n : ℕ) → recordValid (recordOfReceipt z n) ≡ true
+unfolding receiptOfNumber
 record-valid z F n = all-nth (λ r. recordValid (recordOf r)) noReceipt (z .receipts) n none-valid (F .records)
 
 -- the record in its place is that of the receipt
 pub record-in-place : (s : List ℕ) → Encoded s → Fits (decode s) → (n : ℕ) → 0 < n → n ≤ receiptCount
-    → recordIn (receiptRun s (n - 1)) ≡ recordAt (decode s) n
-unfolding receiptAt
+    → recordIn (receiptRun s (n - 1)) ≡ recordOfReceipt (decode s) n
+unfolding receiptOfNumber
 record-in-place s e F n a b =
     let z = decode s in
     ap (λ (t : List ℕ). recordIn (receiptRun t (n - 1))) e

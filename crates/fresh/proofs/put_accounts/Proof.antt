@@ -26,20 +26,20 @@ loop-holds : tie.Need-loop-holds Inv-loop μ-loop
 unfolding tableBytes
 loop-holds c = (omega arith, search needs, refl)
 
-mul-account-run : tie.Need-mul-account-run Inv-loop μ-loop
-mul-account-run c = search needs
+mul-account-bytes : tie.Need-mul-account-bytes Inv-loop μ-loop
+mul-account-bytes c = search needs
 
-add-account-run : tie.Need-add-account-run Inv-loop μ-loop
-add-account-run c = search needs
+add-account-bytes : tie.Need-add-account-bytes Inv-loop μ-loop
+add-account-bytes c = search needs
 
-mul-account-run-2 : tie.Need-mul-account-run-2 Inv-loop μ-loop
-mul-account-run-2 c = search needs
+mul-account-bytes-2 : tie.Need-mul-account-bytes-2 Inv-loop μ-loop
+mul-account-bytes-2 c = search needs
 
-array-copy-out-account-run : tie.Need-array-copy-out-account-run Inv-loop μ-loop
-array-copy-out-account-run c = search needs
+array-copy-out-account-bytes : tie.Need-array-copy-out-account-bytes Inv-loop μ-loop
+array-copy-out-account-bytes c = search needs
 
-account-run-requires : tie.Need-account-run-requires Inv-loop μ-loop
-account-run-requires c κs = omega (arith, simp length-sets at (ap length (c .before .before .before .loop .inv .2)))
+account-bytes-requires : tie.Need-account-bytes-requires Inv-loop μ-loop
+account-bytes-requires c κs = omega (arith, simp length-sets at (ap length (c .before .before .before .loop .inv .2)))
 
 add-i : tie.Need-add-i Inv-loop μ-loop
 add-i c = search needs
@@ -54,7 +54,7 @@ loop-again c =
     let h : l .i < length (a .t2) = omega arith in (
       omega arith,
       l .inv .1,
-      c .before .before .account-run .ensures
+      c .before .before .account-bytes .ensures
           ∙ ap (λ (s : List ℕ). sets s (accountStart + l .i * accountLength) (accountBytes (getD (a .t2) (l .i) emptyAccount))) (l .inv .2)
           ∙ put-more accountBytes accountLength account-wide (now (a .image)) accountStart (a .t2) (l .i) emptyAccount h,
     )
@@ -76,11 +76,11 @@ put-accounts-spec =
     Inv-loop
     μ-loop
     loop-holds
-    mul-account-run
-    add-account-run
-    mul-account-run-2
-    array-copy-out-account-run
-    account-run-requires
+    mul-account-bytes
+    add-account-bytes
+    mul-account-bytes-2
+    array-copy-out-account-bytes
+    account-bytes-requires
     add-i
     loop-less
     loop-again

@@ -27,11 +27,11 @@ loop-holds : tie.Need-loop-holds Inv-loop μ-loop
 unfolding tableBytes
 loop-holds c = (omega arith, search needs, refl)
 
-mul-record-run : tie.Need-mul-record-run Inv-loop μ-loop
-mul-record-run c = search needs
+mul-record-bytes : tie.Need-mul-record-bytes Inv-loop μ-loop
+mul-record-bytes c = search needs
 
-add-record-run : tie.Need-add-record-run Inv-loop μ-loop
-add-record-run c = search needs
+add-record-bytes : tie.Need-add-record-bytes Inv-loop μ-loop
+add-record-bytes c = search needs
 
 mul-record-of : tie.Need-mul-record-of Inv-loop μ-loop
 mul-record-of c = search needs
@@ -42,8 +42,8 @@ array-copy-out-record-of c = search needs
 record-of-requires : tie.Need-record-of-requires Inv-loop μ-loop
 record-of-requires c κs = search needs
 
-record-run-requires : tie.Need-record-run-requires Inv-loop μ-loop
-record-run-requires c κs = omega (arith, simp length-sets at (ap length (c .before .before .before .before .loop .inv .2)))
+record-bytes-requires : tie.Need-record-bytes-requires Inv-loop μ-loop
+record-bytes-requires c κs = omega (arith, simp length-sets at (ap length (c .before .before .before .before .loop .inv .2)))
 
 add-i : tie.Need-add-i Inv-loop μ-loop
 add-i c = search needs
@@ -59,7 +59,7 @@ loop-again c =
     let h : l .i < length (a .t2) = omega arith in (
       omega arith,
       l .inv .1,
-      c .before .before .record-run .ensures ∙ ap (λ (r : Record). sets (l .image) (receiptStart + l .i * receiptLength) (recordBytes r)) (c .before .before .before .record-of .ensures)
+      c .before .before .record-bytes .ensures ∙ ap (λ (r : Record). sets (l .image) (receiptStart + l .i * receiptLength) (recordBytes r)) (c .before .before .before .record-of .ensures)
           ∙ ap (λ (s : List ℕ). sets s (receiptStart + l .i * receiptLength) (receiptBytes (getD (a .t2) (l .i) noReceipt))) (l .inv .2)
           ∙ put-more receiptBytes receiptLength receipt-wide (now (a .image)) receiptStart (a .t2) (l .i) noReceipt h,
     )
@@ -81,12 +81,12 @@ put-receipts-spec =
     Inv-loop
     μ-loop
     loop-holds
-    mul-record-run
-    add-record-run
+    mul-record-bytes
+    add-record-bytes
     mul-record-of
     array-copy-out-record-of
     record-of-requires
-    record-run-requires
+    record-bytes-requires
     add-i
     loop-less
     loop-again

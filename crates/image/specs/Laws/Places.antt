@@ -18,7 +18,7 @@ use Rattle.zone.specs.Parts.{withClock, withAsks, withAccounts, withReceipts, w
 use Rattle.image.specs.Table.{tableBytes}
 use Rattle.units.specs.Ranges.{accountCount, receiptCount, contractCount}
 use Rattle.zone.specs.Valid.{Sized, noAsks}
-use Rattle.image.specs.Layout.{accountLength, askLength, receiptLength, accountStart, contractStart, receiptStart, dayPlace, phasePlace, totalPlace, headerBytes, accountBytes, askBytes, receiptBytes}
+use Rattle.image.specs.Layout.{accountLength, askLength, receiptLength, accountStart, contractStart, receiptStart, dayPlace, phasePlace, totalPlace, phaseByte, headerBytes, accountBytes, askBytes, receiptBytes}
 use Rattle.image.specs.Image.{decode, encode, Encoded}
 use Rattle.image.specs.Laws.Table.{length-tableBytes}
 use Rattle.image.specs.Laws.Layout.{account-wide, ask-wide, receipt-wide}
@@ -154,8 +154,8 @@ module _ (s : List ℕ) (e : Encoded s) where
       ap (λ (l : List ℕ). sets l totalPlace (leBytes 8 (t .0))) (e ∙ header-first z S) ∙ sym (header-first (withTotal z t) (total-set z S t))
 
   pub clock-put : (day : ℕ) (afternoon : Bool) →
-      set (sets s dayPlace (leBytes 2 day)) phasePlace (cond afternoon 1 0) ≡ encode (withClock (decode s) day afternoon)
+      set (sets s dayPlace (leBytes 2 day)) phasePlace (phaseByte afternoon) ≡ encode (withClock (decode s) day afternoon)
   unfolding headerBytes leBytes
   clock-put day afternoon =
-      ap (λ (l : List ℕ). set (sets l dayPlace (leBytes 2 day)) phasePlace (cond afternoon 1 0)) (e ∙ header-first z S)
+      ap (λ (l : List ℕ). set (sets l dayPlace (leBytes 2 day)) phasePlace (phaseByte afternoon)) (e ∙ header-first z S)
       ∙ sym (header-first (withClock z day afternoon) (clock-set z S day afternoon))

@@ -27,7 +27,7 @@ use Rattle.zone.specs.Laws.Facts.{bounds}
 use Rattle.zone.specs.Laws.Held.{invoice-bounds}
 use Rattle.zone.specs.Laws.Tests.{both, price-at-most}
 use Rattle.image.specs.Table.{table}
-use Rattle.image.specs.Layout.{headerLength, accountLength, askLength, receiptLength, accountStart, contractStart, receiptStart, accountCountPlace, receiptCountPlace, contractCountPlace, dayPlace, accountStartPlace, contractStartPlace, receiptStartPlace, phasePlace, totalPlace, ownerPlace, statePlace, sellerPlace, buyerPlace, contractPlace, daysPlace, duePlace, weightPlace, basisPlace, pricePlace, pendingPlace, confirmedPlace, paidPlace, headerOk, headerBytes, dayIn, afternoonIn, totalIn, accountIn, accountBytes, askIn, askBytes, recordIn, recordBytes}
+use Rattle.image.specs.Layout.{headerLength, accountLength, askLength, receiptLength, accountStart, contractStart, receiptStart, accountCountPlace, receiptCountPlace, contractCountPlace, dayPlace, accountStartPlace, contractStartPlace, receiptStartPlace, phasePlace, totalPlace, ownerPlace, statePlace, sellerPlace, buyerPlace, contractPlace, daysPlace, duePlace, weightPlace, basisPlace, pricePlace, pendingPlace, confirmedPlace, paidPlace, headerOk, phaseByte, headerBytes, dayIn, afternoonIn, totalIn, accountIn, accountBytes, askIn, askBytes, recordIn, recordBytes}
 use Rattle.image.specs.Laws.Bytes.{bytes-cons, bytes-append}
 use Rattle.image.specs.Laws.Fields.{record-eq}
 
@@ -131,11 +131,11 @@ header-bytes day afternoon total =
     let s8 = s6 ++ leBytes 4 accountStart in
     let s12 = s8 ++ leBytes 4 contractStart in
     let s16 = s12 ++ leBytes 4 receiptStart in
-    let phase : List ℕ = cond afternoon 1 0 ∷ 0 ∷ 0 ∷ 0 ∷ [] in
+    let phase : List ℕ = phaseByte afternoon ∷ 0 ∷ 0 ∷ 0 ∷ [] in
     let numbers : Bytes s16 =
     bytes-number s12 4 receiptStart
     (bytes-number s8 4 contractStart (bytes-number s6 4 accountStart (bytes-number s4 2 day (bytes-number s2 2 contractCount (bytes-number (leBytes 2 accountCount) 2 receiptCount (bytes-leBytes 2 accountCount)))))) in
-    bytes-number (s16 ++ phase) 8 total (bytes-append s16 phase numbers (bytes-cons (cond afternoon 1 0) (0 ∷ 0 ∷ 0 ∷ []) (phase-byte afternoon) (bytes-zeros 3)))
+    bytes-number (s16 ++ phase) 8 total (bytes-append s16 phase numbers (bytes-cons (phaseByte afternoon) (0 ∷ 0 ∷ 0 ∷ []) (phase-byte afternoon) (bytes-zeros 3)))
 
 pub account-bytes : (a : Account) → Bytes (accountBytes a)
 unfolding accountBytes

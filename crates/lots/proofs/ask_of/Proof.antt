@@ -7,13 +7,13 @@ use Rattle.image.specs.Image.{decode}
 use Rattle.image.specs.Laws.RoundTrip.{ask-in-place}
 use Rattle.rules.specs.Laws.Tables.{nth-index}
 use Rattle.rules.specs.Tables.{nth}
-use Rattle.rules.specs.View.{askAt}
+use Rattle.rules.specs.View.{askOf}
 use borrow.Author.Needs.{needs}
 use Rattle.lots.proofs.ask_of.Statement.{statement}
 use Rattle.lots.proofs.ask_of.Tie as tie
 
 returns : tie.Need-returns
-unfolding askAt nth
+unfolding askOf nth
 returns c = sym (ap (nth _ (decode (now (c .before .before .args .image)) .asks)) (c .if1 .taken))
 
 sub-k : tie.Need-sub-k
@@ -26,7 +26,7 @@ ask-at-requires : tie.Need-ask-at-requires
 ask-at-requires c κs = (c .before .before .pre .0, omega (arith, c .before .before .pre .1))
 
 returns-2 : tie.Need-returns-2
-unfolding askAt
+unfolding askOf
 returns-2 c =
     let s = now (c .before .before .before .args .image) in
     let n = c .before .before .before .args .n in

@@ -12,7 +12,7 @@ use Rattle.zone.specs.Valid.{emptyAccount}
 use Rattle.image.specs.Image.{decode}
 use Rattle.image.specs.Laws.RoundTrip.{decode-sized, account-in-place}
 use Rattle.rules.specs.Laws.Moves.{free-index}
-use Rattle.rules.specs.View.{freeAt}
+use Rattle.rules.specs.View.{freeOf}
 use Rattle.lots.specs.Laws.Past.{nth-outside}
 use borrow.Author.Needs.{needs}
 use Rattle.lots.proofs.free_of.Statement.{statement}
@@ -25,7 +25,7 @@ is-account-requires : tie.Need-is-account-requires
 is-account-requires c κs = search needs
 
 returns : tie.Need-returns
-unfolding freeAt
+unfolding freeOf
 returns c =
     let s = now (c .before .before .before .args .image) in
     let out : isAccount (c .before .before .before .args .a) ≡ false = sym (c .before .is-account .ensures) ∙ not-true _ (c .if1 .taken) in

@@ -10,7 +10,7 @@ use Rattle.zone.specs.Record.{recordOf}
 use Rattle.zone.specs.Valid.{noReceipt}
 use Rattle.image.specs.Image.{decode}
 use Rattle.image.specs.Laws.RoundTrip.{same-long, decode-sized}
-use Rattle.rules.specs.View.{receiptAt}
+use Rattle.rules.specs.View.{receiptOfNumber}
 use Rattle.events.specs.Laws.Moved.{record-in-place}
 use Rattle.lots.specs.Laws.Past.{nth-outside}
 use borrow.Author.Needs.{needs}
@@ -27,7 +27,7 @@ record-of-requires : tie.Need-record-of-requires
 record-of-requires c κs = search needs
 
 returns : tie.Need-returns
-unfolding receiptAt
+unfolding receiptOfNumber
 returns c =
     let s = now (c .before .before .before .before .args .image) in
     let out : isReceipt (c .before .before .before .before .args .n) ≡ false = sym (c .before .before .is-receipt .ensures) ∙ not-true _ (c .before .if1 .taken) in

@@ -10,7 +10,7 @@ use Rattle.image.specs.Image.{decode}
 use Rattle.image.specs.Layout.{recordIn, receiptRun}
 use Rattle.image.specs.Laws.RoundTrip.{same-long, valid-fits}
 use Rattle.rules.specs.Laws.Ready.{ready-at}
-use Rattle.rules.specs.View.{recordAt}
+use Rattle.rules.specs.View.{recordOfReceipt}
 use Rattle.events.specs.Laws.Moved.{record-in-place, record-valid}
 use Rattle.lots.specs.Concerned.{concerned}
 use Rattle.lots.specs.Laws.Visits.{good-decode, swept-ready}
@@ -20,7 +20,7 @@ use Rattle.lots.proofs.visit.Statement.{statement}
 use Rattle.lots.proofs.visit.Tie as tie
 
 -- the record in its place is the lot's
-here : (c : tie.Start) → recordIn (receiptRun (now (c .args .image)) (c .args .n - 1)) ≡ recordAt (decode (now (c .args .image))) (c .args .n)
+here : (c : tie.Start) → recordIn (receiptRun (now (c .args .image)) (c .args .n - 1)) ≡ recordOfReceipt (decode (now (c .args .image))) (c .args .n)
 here c = record-in-place _ (c .pre .0) (valid-fits _ (c .pre .1)) (c .args .n) (c .pre .3) (c .pre .4)
 
 sub-k : tie.Need-sub-k
@@ -40,7 +40,7 @@ concerns-requires c κs = search needs
 
 returns : tie.Need-returns
 returns c =
-    let f = recordAt (decode (now (c .before .before .before .before .before .args .image))) (c .before .before .before .before .before .args .n) in
+    let f = recordOfReceipt (decode (now (c .before .before .before .before .before .args .image))) (c .before .before .before .before .before .args .n) in
     let at-lot : concerned (c .before .before .before .before .before .args .c) (f .state) (f .contract) ≡ false =
     rw (← here (c .before .before .before .before .before)) (rw (c .before .before .before .state-at .ensures, c .before .before .contract-at .ensures) at (sym (c .before .concerns .ensures) ∙ not-true _ (c .if1 .taken))) in
     sym (passed-over _ (c .before .before .before .before .before .args .c) (c .before .before .before .before .before .args .n) f (c .before .before .before .before .before .pre .2) at-lot)

@@ -5,7 +5,7 @@ use native.Mathlib.Omega.{arith}
 use borrow.Author.Tests.{eq-eqb, ne-eqb}
 use lib.Dec.{eqb}
 use Rattle.zone.specs.declared.Hold.{Hold}
-use Rattle.zone.specs.Held.{heldFrom, share}
+use Rattle.zone.specs.Held.{heldFrom, fenFrom}
 use Rattle.zone.specs.Laws.Held.{heldFrom-le}
 use borrow.Author.Needs.{needs}
 use Rattle.numbers.proofs.held_from.Statement.{statement}
@@ -19,7 +19,7 @@ hold-of-requires : tie.Need-hold-of-requires
 hold-of-requires c κs = search needs
 
 returns : tie.Need-returns
-unfolding heldFrom share
+unfolding heldFrom fenFrom
 returns c =
     let a = c .before .before .before .before .args .a in
     let f = c .before .before .before .before .args .f in
@@ -28,7 +28,7 @@ returns c =
     (e, rw e (omega (arith, heldFrom-le a f (c .before .before .before .before .pre))))
 
 returns-2 : tie.Need-returns-2
-unfolding heldFrom share
+unfolding heldFrom fenFrom
 returns-2 c =
     let a = c .before .before .before .before .args .a in
     let f = c .before .before .before .before .args .f in

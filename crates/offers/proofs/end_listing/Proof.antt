@@ -1,4 +1,3 @@
-use Rattle.rules.specs.Effects.{withdrawListing}
 use borrow.Author.Needs.{needs}
 use Rattle.offers.proofs.end_listing.Statement.{statement}
 use Rattle.offers.proofs.end_listing.Tie as tie
@@ -10,7 +9,6 @@ with-lot-requires : tie.Need-with-lot-requires
 with-lot-requires c κs = search needs
 
 returns : tie.Need-returns
-unfolding withdrawListing
 returns c = rw (c .before .by-owner .ensures, c .with-lot .ensures)
 
 pub end-listing-spec : {M : Type 1} → statement M

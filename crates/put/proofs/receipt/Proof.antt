@@ -13,17 +13,17 @@ use borrow.Author.Needs.{needs}
 use Rattle.put.proofs.receipt.Statement.{statement}
 use Rattle.put.proofs.receipt.Tie as tie
 
-mul-record-run : tie.Need-mul-record-run
-mul-record-run c = search needs
+mul-record-bytes : tie.Need-mul-record-bytes
+mul-record-bytes c = search needs
 
-add-record-run : tie.Need-add-record-run
-add-record-run c = search needs
+add-record-bytes : tie.Need-add-record-bytes
+add-record-bytes c = search needs
 
 record-of-requires : tie.Need-record-of-requires
 record-of-requires c κs = search needs
 
-record-run-requires : tie.Need-record-run-requires
-record-run-requires c κs = omega (arith, same-long _ (c .before .before .before .pre .0))
+record-bytes-requires : tie.Need-record-bytes-requires
+record-bytes-requires c κs = omega (arith, same-long _ (c .before .before .before .pre .0))
 
 same-length : tie.Need-same-length
 same-length c = search needs
@@ -32,9 +32,9 @@ returns : tie.Need-returns
 unfolding receiptBytes
 returns c =
     let s = now (c .before .before .before .before .before .before .args .image) in
-    c .before .before .record-run .ensures
+    c .before .before .record-bytes .ensures
     ∙ ap (λ (r : Record). sets s (receiptStart + c .before .before .before .before .before .before .args .k * receiptLength) (recordBytes r)) (c .before .before .before .record-of .ensures)
     ∙ receipt-put s (c .before .before .before .before .before .before .pre .0) (c .before .before .before .before .before .before .args .k) (c .before .before .before .before .before .before .args .r) (c .before .before .before .before .before .before .pre .1)
 
 pub receipt-spec : {M : Type 1} → statement M
-receipt-spec = tie.close (tie.spec mul-record-run add-record-run record-of-requires record-run-requires same-length returns)
+receipt-spec = tie.close (tie.spec mul-record-bytes add-record-bytes record-of-requires record-bytes-requires same-length returns)

@@ -11,9 +11,9 @@ use Rattle.zone.specs.declared.Account.{Account}
 use Rattle.zone.specs.declared.Receipt.{Receipt}
 use Rattle.zone.specs.declared.Record.{Record}
 use Rattle.zone.specs.declared.Zone.{Zone}
-use Rattle.zone.specs.Held.{share, held, heldFrom}
+use Rattle.zone.specs.Held.{fenFrom, held, heldFrom}
 use Rattle.zone.specs.Laws.Facts.{Owned, bounds}
-use Rattle.zone.specs.Laws.Held.{share-same}
+use Rattle.zone.specs.Laws.Held.{fenFrom-same}
 use Rattle.zone.specs.Laws.Lots.{LotIn, IdleIn, receipt-valid}
 use Rattle.zone.specs.Laws.Tests.{InRange}
 use Rattle.zone.specs.Record.{recordOf}
@@ -22,11 +22,11 @@ use Rattle.rules.specs.declared.Entry.{Entry}
 use Rattle.rules.specs.Events.{moneyOf, posted}
 use Rattle.rules.specs.Laws.Funded.{booked, total-after, length-after, heldSum-put, heldSum-nth}
 use Rattle.rules.specs.Laws.Good.{Good, valid-at}
-use Rattle.rules.specs.Laws.Moves.{share-zero}
+use Rattle.rules.specs.Laws.Moves.{fenFrom-zero}
 use Rattle.rules.specs.Laws.Receipts.{held-own}
 use Rattle.rules.specs.Laws.Tables.{length-put, all-put}
 use Rattle.rules.specs.Ready.{Funded}
-use Rattle.rules.specs.View.{freeAt, recordAt}
+use Rattle.rules.specs.View.{freeOf, recordOfReceipt}
 
 -- an entry that stands in an answer, for lot n
 pub record EntryOk (n : ℕ) (e : Entry) : Type 0 where
@@ -39,9 +39,9 @@ pub record EntryOk (n : ℕ) (e : Entry) : Type 0 where
 -- The money of an event is there: of accounts l, the lot of record f becomes r′. What the lot held counts as free.
 pub record Pays (l : List Account) (f : Record) (e : Entry) (r′ : Receipt) : Type 0 where
   pub to-some : 0 < moneyOf e .0 → 0 < e .to
-  pub pass-fits : moneyOf e .0 ≤ freeAt l (e .from) .0 + heldFrom (e .from) f
-  pub hold-fits : 0 < recordOf r′ .buyer → held (recordOf r′) .0 + share (recordOf r′ .buyer) (e .from) (moneyOf e .0)
-      ≤ freeAt l (recordOf r′ .buyer) .0 + heldFrom (recordOf r′ .buyer) f + share (recordOf r′ .buyer) (e .to) (moneyOf e .0)
+  pub pass-fits : moneyOf e .0 ≤ freeOf l (e .from) .0 + heldFrom (e .from) f
+  pub hold-fits : 0 < recordOf r′ .buyer → held (recordOf r′) .0 + fenFrom (recordOf r′ .buyer) (e .from) (moneyOf e .0)
+      ≤ freeOf l (recordOf r′ .buyer) .0 + heldFrom (recordOf r′ .buyer) f + fenFrom (recordOf r′ .buyer) (e .to) (moneyOf e .0)
 
 pub record Fit (l : List Account) (n : ℕ) (f : Record) (e : Entry) (r′ : Receipt) : Type 0 where
   pub entry : EntryOk n e
@@ -60,12 +60,12 @@ held-from f b = ap (λ (x : ℕ). heldFrom x f) b ∙ held-own f
 
 module _ {l : List Account} {f : Record} {e : Entry} {r′ : Receipt} (p : moneyOf e .0 ≡ 0) where
   -- nothing passes, and what the lot now holds its buyer has
-  pub holding : held (recordOf r′) .0 ≤ freeAt l (recordOf r′ .buyer) .0 + heldFrom (recordOf r′ .buyer) f → Pays l f e r′
+  pub holding : held (recordOf r′) .0 ≤ freeOf l (recordOf r′ .buyer) .0 + heldFrom (recordOf r′ .buyer) f → Pays l f e r′
   holding h =
       record {
         to-some = λ q. absurd (omega arith);
         pass-fits = omega arith;
-        hold-fits = λ q. rw p (omega (arith, share-zero (recordOf r′ .buyer) (e .from)));
+        hold-fits = λ q. rw p (omega (arith, fenFrom-zero (recordOf r′ .buyer) (e .from)));
       }
 
   -- nothing passes, and the lot now holds nothing
@@ -78,7 +78,7 @@ module _ {l : List Account} {f : Record} {e : Entry} {r′ : Receipt} (p : money
 
 -- the payer has what passes, and the lot now holds nothing from anybody
 pub ending : {l : List Account} {f : Record} {e : Entry} {r′ : Receipt} → 0 < e .to → recordOf r′ .buyer ≡ 0
-    → moneyOf e .0 ≤ freeAt l (e .from) .0 + heldFrom (e .from) f → Pays l f e r′
+    → moneyOf e .0 ≤ freeOf l (e .from) .0 + heldFrom (e .from) f → Pays l f e r′
 ending t b h = record { to-some = λ q. t; pass-fits = h; hold-fits = λ q. absurd (omega arith) }
 
 -- the buyer pays out of what the lot held, and the lot holds the rest, or no more than the rest
@@ -90,8 +90,8 @@ paying {l} {f} {e} {r′} t a b h =
       pass-fits = omega (arith, held-from f a);
       hold-fits = λ q.
           subst
-          (λ (x : ℕ). held (recordOf r′) .0 + share x (e .from) (moneyOf e .0) ≤ freeAt l x .0 + heldFrom x f + share x (e .to) (moneyOf e .0))
-          b (omega (arith, held-from f a, share-same (e .from) (moneyOf e .0)));
+          (λ (x : ℕ). held (recordOf r′) .0 + fenFrom x (e .from) (moneyOf e .0) ≤ freeOf l x .0 + heldFrom x f + fenFrom x (e .to) (moneyOf e .0))
+          b (omega (arith, held-from f a, fenFrom-same (e .from) (moneyOf e .0)));
     }
 
 -- a registered receipt with no lot
@@ -101,11 +101,11 @@ idle-in O = record { unregistered = λ e. absurd (omega (arith, O .owner .low));
 -- ── A good zone stays good ─────────────────────────────────────────────────────────────────────
 
 module _ (z : Zone) (e : Entry) (r′ : Receipt) (low : 0 < e .lot) (high : e .lot ≤ receiptCount) (G : Good z)
-    (F : Fit (z .accounts) (e .lot) (recordAt z (e .lot)) e r′) where
-  pub funded : Funded (z .accounts) (recordAt z (e .lot)) e (recordOf r′)
+    (F : Fit (z .accounts) (e .lot) (recordOfReceipt z (e .lot)) e r′) where
+  pub funded : Funded (z .accounts) (recordOfReceipt z (e .lot)) e (recordOf r′)
   unfolding heldFrom
   funded =
-      let f : Record = recordAt z (e .lot) in
+      let f : Record = recordOfReceipt z (e .lot) in
       let P : Pays (z .accounts) f e r′ = F .pays in
       let i : f .buyer ≤ accountCount = bounds f (valid-at z G (e .lot)) .buyer in
       record {
@@ -125,7 +125,7 @@ module _ (z : Zone) (e : Entry) (r′ : Receipt) (low : 0 < e .lot) (high : e .l
   stays : Good (posted z e r′)
   unfolding posted
   stays =
-      let f : Record = recordAt z (e .lot) in
+      let f : Record = recordOfReceipt z (e .lot) in
       record {
         sized = record {
           accounts = length-after (z .accounts) f e (recordOf r′) ∙ G .sized .accounts;
@@ -147,9 +147,9 @@ module _ (z : Zone) (e : Entry) (r′ : Receipt) (low : 0 < e .lot) (high : e .l
       }
 
 module _ (z : Zone) (n : ℕ) (e : Entry) (r′ : Receipt) (low : 0 < n) (high : n ≤ receiptCount) (G : Good z)
-    (F : Fit (z .accounts) n (recordAt z n) e r′) where
-  pub fit-lot : Fit (z .accounts) (e .lot) (recordAt z (e .lot)) e r′
-  fit-lot = subst (λ (k : ℕ). Fit (z .accounts) k (recordAt z k) e r′) (sym (F .entry .lot)) F
+    (F : Fit (z .accounts) n (recordOfReceipt z n) e r′) where
+  pub fit-lot : Fit (z .accounts) (e .lot) (recordOfReceipt z (e .lot)) e r′
+  fit-lot = subst (λ (k : ℕ). Fit (z .accounts) k (recordOfReceipt z k) e r′) (sym (F .entry .lot)) F
 
   pub good-stays : Good (posted z e r′)
   good-stays = stays z e r′ (rw (F .entry .lot) low) (rw (F .entry .lot) high) G fit-lot

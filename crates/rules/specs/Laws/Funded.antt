@@ -11,7 +11,7 @@ use Rattle.zone.specs.declared.Account.{Account}
 use Rattle.zone.specs.declared.Hold.{Hold}
 use Rattle.zone.specs.declared.Receipt.{Receipt}
 use Rattle.zone.specs.declared.Record.{Record}
-use Rattle.zone.specs.Held.{holdOf, share, heldFrom, heldSum, allMoney}
+use Rattle.zone.specs.Held.{holdOf, fenFrom, heldFrom, heldSum, allMoney}
 use Rattle.zone.specs.Laws.Held.{heldSum-set, heldSum-at}
 use Rattle.zone.specs.Record.{recordOf}
 use Rattle.zone.specs.Valid.{noReceipt}
@@ -20,7 +20,7 @@ use Rattle.rules.specs.Events.{credit, debit, release, freeze, moneyOf, 
 use Rattle.rules.specs.Laws.Moves.{free-credit, frozen-credit, free-debit, frozen-debit, free-release, frozen-release, free-freeze, frozen-freeze, length-credit, length-debit, length-release, length-freeze, all-debit, all-release, all-freeze, all-pass}
 use Rattle.rules.specs.Ready.{Funds, Funded}
 use Rattle.rules.specs.Tables.{nth, put}
-use Rattle.rules.specs.View.{freeAt, frozenAt, receiptAt}
+use Rattle.rules.specs.View.{freeOf, frozenOf, receiptOfNumber}
 
 module _ {l : List Account} {old : Hold} {s t : ℕ} {n : Fen} {new : Hold} (F : Funds l old s t n new) where
   abbrev l1 : List Account
@@ -44,15 +44,15 @@ module _ {l : List Account} {old : Hold} {s t : ℕ} {n : Fen} {new : Hold} (F :
   new-in3 : new .from ≤ length (credit t n (debit s n (release (old .from) (old .fen) l)))
   new-in3 = rw (length-credit l2 t n, length-debit l1 s n, length-release l (old .from) (old .fen)) (F .new-in)
 
-  freed : (x : ℕ) → 0 < x → freeAt (release (old .from) (old .fen) l) x .0 ≡ freeAt l x .0 + share x (old .from) (old .fen .0)
+  freed : (x : ℕ) → 0 < x → freeOf (release (old .from) (old .fen) l) x .0 ≡ freeOf l x .0 + fenFrom x (old .from) (old .fen .0)
   freed x p = free-release l x (old .from) p (F .old-in) (old .fen)
 
   -- the payer has what passes, once the old hold is freed
-  pub pass-free : n .0 ≤ freeAt (release (old .from) (old .fen) l) s .0
+  pub pass-free : n .0 ≤ freeOf (release (old .from) (old .fen) l) s .0
   pass-free = rw (freed s (F .from-some)) (F .pass-fits)
 
   -- the new holder has what is frozen, once the rest is done
-  pub hold-free : 0 < new .from → new .fen .0 ≤ freeAt (credit t n (debit s n (release (old .from) (old .fen) l))) (new .from) .0
+  pub hold-free : 0 < new .from → new .fen .0 ≤ freeOf (credit t n (debit s n (release (old .from) (old .fen) l))) (new .from) .0
   hold-free p =
       omega (arith, freed (new .from) p, free-debit l1 (new .from) s p from-in1 n (λ _. pass-free), free-credit l2 (new .from) t p to-in2 n, F .hold-fits p)
 
@@ -71,9 +71,9 @@ module _ {l : List Account} {old : Hold} {s t : ℕ} {n : Fen} {new : Hold} (F :
 
   -- what account x has, and has frozen, after it
   pub money-after : (x : ℕ) → 0 < x →
-      freeAt (freeze (new .from) (new .fen) (credit t n (debit s n (release (old .from) (old .fen) l)))) x .0
-      + frozenAt (freeze (new .from) (new .fen) (credit t n (debit s n (release (old .from) (old .fen) l)))) x .0 + share x s (n .0)
-      ≡ freeAt l x .0 + frozenAt l x .0 + share x t (n .0)
+      freeOf (freeze (new .from) (new .fen) (credit t n (debit s n (release (old .from) (old .fen) l)))) x .0
+      + frozenOf (freeze (new .from) (new .fen) (credit t n (debit s n (release (old .from) (old .fen) l)))) x .0 + fenFrom x s (n .0)
+      ≡ freeOf l x .0 + frozenOf l x .0 + fenFrom x t (n .0)
   money-after x p =
       omega (
         arith,
@@ -88,8 +88,8 @@ module _ {l : List Account} {old : Hold} {s t : ℕ} {n : Fen} {new : Hold} (F :
       )
 
   pub frozen-after : (x : ℕ) → 0 < x →
-      frozenAt (freeze (new .from) (new .fen) (credit t n (debit s n (release (old .from) (old .fen) l)))) x .0 + share x (old .from) (old .fen .0)
-      ≡ frozenAt l x .0 + share x (new .from) (new .fen .0)
+      frozenOf (freeze (new .from) (new .fen) (credit t n (debit s n (release (old .from) (old .fen) l)))) x .0 + fenFrom x (old .from) (old .fen .0)
+      ≡ frozenOf l x .0 + fenFrom x (new .from) (new .fen .0)
   frozen-after x p =
       omega (
         arith,
@@ -108,9 +108,9 @@ module _ (l : List Account) (f : Record) (e : Entry) (f′ : Record) where
 
   -- what each account has, and has frozen, after it
   pub record Booked (x : ℕ) : Type 0 where
-    pub money : freeAt (accountsAfter f e f′ l) x .0 + frozenAt (accountsAfter f e f′ l) x .0 + share x (e .from) (moneyOf e .0)
-        ≡ freeAt l x .0 + frozenAt l x .0 + share x (e .to) (moneyOf e .0)
-    pub frozen : frozenAt (accountsAfter f e f′ l) x .0 + heldFrom x f ≡ frozenAt l x .0 + heldFrom x f′
+    pub money : freeOf (accountsAfter f e f′ l) x .0 + frozenOf (accountsAfter f e f′ l) x .0 + fenFrom x (e .from) (moneyOf e .0)
+        ≡ freeOf l x .0 + frozenOf l x .0 + fenFrom x (e .to) (moneyOf e .0)
+    pub frozen : frozenOf (accountsAfter f e f′ l) x .0 + heldFrom x f ≡ frozenOf l x .0 + heldFrom x f′
 
   pub booked : Funded l f e f′ → (x : ℕ) → 0 < x → Booked x
   unfolding accountsAfter heldFrom
@@ -123,12 +123,12 @@ module _ (l : List Account) (f : Record) (e : Entry) (f′ : Record) where
 -- ── The sums held, when one lot changes ────────────────────────────────────────────────────────
 
 pub heldSum-put : (x : ℕ) (l : List Receipt) (k : ℕ) (r : Receipt) → 0 < k → k ≤ length l →
-    heldSum recordOf x (put l k r) + heldFrom x (recordOf (receiptAt l k)) ≡ heldSum recordOf x l + heldFrom x (recordOf r)
-unfolding receiptAt nth put
+    heldSum recordOf x (put l k r) + heldFrom x (recordOf (receiptOfNumber l k)) ≡ heldSum recordOf x l + heldFrom x (recordOf r)
+unfolding receiptOfNumber nth put
 heldSum-put x l zero r p h = absurd (not-suc-le-zero p)
 heldSum-put x l (suc k) r p h = heldSum-set recordOf x l k r noReceipt h
 
-pub heldSum-nth : (x : ℕ) (l : List Receipt) (k : ℕ) → 0 < k → k ≤ length l → heldFrom x (recordOf (receiptAt l k)) ≤ heldSum recordOf x l
-unfolding receiptAt nth
+pub heldSum-nth : (x : ℕ) (l : List Receipt) (k : ℕ) → 0 < k → k ≤ length l → heldFrom x (recordOf (receiptOfNumber l k)) ≤ heldSum recordOf x l
+unfolding receiptOfNumber nth
 heldSum-nth x l zero p h = absurd (not-suc-le-zero p)
 heldSum-nth x l (suc k) p h = heldSum-at recordOf x l k noReceipt h

@@ -16,32 +16,32 @@ use Rattle.zone.specs.Valid.{noReceipt, noAsk, all, askOk, recordValid, validZo
 use Rattle.rules.specs.Laws.Moves.{frozen-index, at-most}
 use Rattle.rules.specs.Laws.Tables.{all-nth}
 use Rattle.rules.specs.Tables.{nth}
-use Rattle.rules.specs.View.{freeAt, frozenAt, receiptAt, recordAt, askAt}
+use Rattle.rules.specs.View.{freeOf, frozenOf, receiptOfNumber, recordOfReceipt, askOf}
 
 pub record Good (z : Zone) : Type 0 where
   pub sized : Sized z
   pub day : InRange 1 lastDay (z .day)
   pub asks : all askOk (z .asks) ≡ true
   pub records : all (λ r. recordValid (recordOf r)) (z .receipts) ≡ true
-  pub frozen : (x : ℕ) → 0 < x → x ≤ accountCount → frozenAt (z .accounts) x .0 ≡ heldSum recordOf x (z .receipts)
+  pub frozen : (x : ℕ) → 0 < x → x ≤ accountCount → frozenOf (z .accounts) x .0 ≡ heldSum recordOf x (z .receipts)
   pub total : z .total .0 ≡ allMoney (z .accounts)
   pub limit : z .total .0 ≤ moneyLimit
 
 -- each receipt of a good zone, nobody's too, has a valid record
-pub valid-at : (z : Zone) → Good z → (n : ℕ) → recordValid (recordAt z n) ≡ true
-unfolding receiptAt
+pub valid-at : (z : Zone) → Good z → (n : ℕ) → recordValid (recordOfReceipt z n) ≡ true
+unfolding receiptOfNumber
 valid-at z G n = all-nth (λ r. recordValid (recordOf r)) noReceipt (z .receipts) n none-valid (G .records)
 
 -- each ask is none or a price
-pub ask-at : (z : Zone) → Good z → (n : ℕ) → askOk (askAt (z .asks) n) ≡ true
-unfolding askAt askOk
+pub ask-at : (z : Zone) → Good z → (n : ℕ) → askOk (askOf (z .asks) n) ≡ true
+unfolding askOf askOk
 ask-at z G n = all-nth askOk noAsk (z .asks) n refl (G .asks)
 
 -- no sum of money of a good zone passes the limit
 pub all-in : (z : Zone) → Good z → allMoney (z .accounts) ≤ moneyLimit
 all-in z G = omega (arith, G .total, G .limit)
 
-pub free-in : (z : Zone) → Good z → (a : ℕ) → freeAt (z .accounts) a .0 ≤ moneyLimit
+pub free-in : (z : Zone) → Good z → (a : ℕ) → freeOf (z .accounts) a .0 ≤ moneyLimit
 free-in z G a = omega (arith, all-in z G, at-most (z .accounts) a)
 
 -- ── The test and the facts ─────────────────────────────────────────────────────────────────────
@@ -63,7 +63,7 @@ good-of z s e =
     }
 
 pub valid-of : (z : Zone) → Good z → validZone z ≡ true
-unfolding frozenAt nth
+unfolding frozenOf nth
 valid-of z G =
     zone-valid z (record {
       day-in = G .day;

@@ -27,7 +27,7 @@ use Rattle.rules.specs.Laws.Passed.{PassedAt, ranges}
 use Rattle.rules.specs.Laws.Tables.{length-put, all-put, special, among-none}
 use Rattle.rules.specs.Numbers.{wrongPhase, lacksMoney, aboveLimit}
 use Rattle.rules.specs.Tables.{among}
-use Rattle.rules.specs.View.{freeAt, viewOf}
+use Rattle.rules.specs.View.{freeOf, viewOf}
 
 -- ── What an opening and an ending leave ────────────────────────────────────────────────────────
 
@@ -115,7 +115,7 @@ module _ (z : Zone) (G : Good z) (c : Call) where
   taken-out P =
       let a : InRange 1 accountCount (c .account) = range-in (ranges P .0) in
       let i : c .account ≤ length (z .accounts) = rw (G .sized .accounts) (a .high) in
-      let m : c .amount ≤ freeAt (z .accounts) (c .account) .0 = ltb-false _ _ (P .money) in
+      let m : c .amount ≤ freeOf (z .accounts) (c .account) .0 = ltb-false _ _ (P .money) in
       record {
         sized = record {
           accounts = length-debit (z .accounts) (c .account) (fen (c .amount)) ∙ G .sized .accounts;

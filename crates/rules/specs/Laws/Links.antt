@@ -26,7 +26,7 @@ use Rattle.rules.specs.Laws.Offers.{FitsAt, register-fit, list-fit, with
 use Rattle.rules.specs.Laws.Passed.{PassedAt, kind-in}
 use Rattle.rules.specs.Laws.Tables.{among-each}
 use Rattle.rules.specs.Laws.Trades.{lodge-fit, close-fit, payFirst-fit, invoice-fit, confirm-fit}
-use Rattle.rules.specs.View.{recordAt}
+use Rattle.rules.specs.View.{recordOfReceipt}
 
 -- a kind that does not go through all lots has passed the tests at the lot it visits
 pub tested : {c : Call} {z : Zone} {n : ℕ} → sweeps (c .kind) ≡ false → Visit c z n → PassedAt c z n
@@ -40,16 +40,16 @@ visit-kind (named q P) = kind-in P
 
 module _ (z : Zone) (G : Good z) (c : Call) (n : ℕ) where
   abbrev f : Record
-  f = recordAt z n
+  f = recordOfReceipt z n
 
   abbrev Fitting : ℕ → Type 0
-  Fitting k = Visit (withKind c k) z n → FitsAt z n (recordAt z n) (ruleAt (withKind c k) z n)
+  Fitting k = Visit (withKind c k) z n → FitsAt z n (recordOfReceipt z n) (ruleAt (withKind c k) z n)
 
   by-rule : ByKind Fitting
   unfolding ruleOf noRule
   by-rule =
       let d : InRange 1 lastDay (z .day) = G .day in
-      let ok : recordValid (recordAt z n) ≡ true = valid-at z G n in
+      let ok : recordValid (recordOfReceipt z n) ≡ true = valid-at z G n in
       record {
         payIn = λ v. none;
         takeOut = λ v. none;
@@ -57,7 +57,7 @@ module _ (z : Zone) (G : Good z) (c : Call) (n : ℕ) where
         list = λ v. list-fit z d c n f ok (tested refl v);
         withdrawListing = λ v. withdrawListing-fit z d c n f ok (tested refl v);
         limitBid = λ v. limitBid-fit z d c n f ok (tested refl v);
-        marketBid = λ v. marketBid-fit z d c n f ok (ask-at z G (recordAt z n .contract)) (tested refl v);
+        marketBid = λ v. marketBid-fit z d c n f ok (ask-at z G (recordOfReceipt z n .contract)) (tested refl v);
         withdrawBid = λ v. withdrawBid-fit z d c n f ok (tested refl v);
         quote = λ v. quote-fit z d c n f ok;
         lodge = λ v. lodge-fit z d c n f ok (tested refl v);
@@ -69,7 +69,7 @@ module _ (z : Zone) (G : Good z) (c : Call) (n : ℕ) where
         noKind = λ k h v. absurd (true≢false (sym (visit-kind v) ∙ h));
       }
 
-  pub fits : Visit c z n → FitsAt z n (recordAt z n) (ruleAt c z n)
+  pub fits : Visit c z n → FitsAt z n (recordOfReceipt z n) (ruleAt c z n)
   fits v = by-kind by-rule (c .kind) v
 
 -- ── What is known at a link ────────────────────────────────────────────────────────────────────
@@ -82,18 +82,18 @@ pub record Linked (c : Call) (lo : ℕ) (z : Zone) (n : ℕ) (e : Entry) (r : Re
   pub visit : Visit c z n
   pub rule : ruleAt c z n ≡ Event e r
   pub good : Good z
-  pub fit : Fit (z .accounts) n (recordAt z n) e r
+  pub fit : Fit (z .accounts) n (recordOfReceipt z n) e r
   pub next : Good (posted z e r)
 
 pub linked : {c : Call} {lo : ℕ} {z : Zone} (n : ℕ) (e : Entry) (r : Receipt) → 0 < n → lo ≤ n → n ≤ receiptCount → Visit c z n
     → ruleAt c z n ≡ Event e r → Good z → Linked c lo z n e r
 linked {c} {lo} {z} n e r a b h v q G =
-    let F : Fit (z .accounts) n (recordAt z n) e r = on-event (fits z G c n v) q in
+    let F : Fit (z .accounts) n (recordOfReceipt z n) e r = on-event (fits z G c n v) q in
     record { low = a; above = b; high = h; visit = v; rule = q; good = G; fit = F; next = good-stays z n e r a h G F }
 
 -- the money of its event is there
 pub link-funded : {c : Call} {lo : ℕ} {z : Zone} {n : ℕ} {e : Entry} {r : Receipt} → Linked c lo z n e r
-    → Funded (z .accounts) (recordAt z (e .lot)) e (recordOf r)
+    → Funded (z .accounts) (recordOfReceipt z (e .lot)) e (recordOf r)
 link-funded {z = z} {n = n} {e = e} {r = r} L =
     let q = L .fit .entry .lot in
     funded z e r (rw q (L .low)) (rw q (L .high)) (L .good) (fit-lot z n e r (L .low) (L .high) (L .good) (L .fit))
@@ -102,7 +102,7 @@ link-funded {z = z} {n = n} {e = e} {r = r} L =
 pub after-good : (z : Zone) → Good z → (c : Call) (n : ℕ) → 0 < n → n ≤ receiptCount → Visit c z n → Good (afterLot z (ruleAt c z n) .zone)
 after-good z G c n a h v = go (ruleAt c z n) (fits z G c n v)
   where
-    go : (s : AtLot) → FitsAt z n (recordAt z n) s → Good (afterLot z s .zone)
+    go : (s : AtLot) → FitsAt z n (recordOfReceipt z n) s → Good (afterLot z s .zone)
     go NoEvent F = G
     go (Event e r) F = good-stays z n e r a h G (F .is)
 

@@ -13,17 +13,17 @@ use lib.ListN.{length, getD}
 use Rattle.units.specs.declared.Fen.{Fen}
 use Rattle.units.specs.Payments.{fen}
 use Rattle.zone.specs.declared.Account.{Account}
-use Rattle.zone.specs.Held.{share, allMoney}
-use Rattle.zone.specs.Laws.Held.{share-same, share-other, allMoney-set, money-le}
+use Rattle.zone.specs.Held.{fenFrom, allMoney}
+use Rattle.zone.specs.Laws.Held.{fenFrom-same, fenFrom-other, allMoney-set, money-le}
 use Rattle.zone.specs.Valid.{emptyAccount}
 use Rattle.rules.specs.Events.{credit, debit, release, freeze}
 use Rattle.rules.specs.Laws.Tables.{length-put, nth-put-same, nth-put-other, nth-index}
 use Rattle.rules.specs.Tables.{nth, put}
-use Rattle.rules.specs.View.{freeAt, frozenAt}
+use Rattle.rules.specs.View.{freeOf, frozenOf}
 
-pub share-zero : (x a : ℕ) → share x a 0 ≡ 0
-unfolding share
-share-zero x a = go (eqb x a)
+pub fenFrom-zero : (x a : ℕ) → fenFrom x a 0 ≡ 0
+unfolding fenFrom
+fenFrom-zero x a = go (eqb x a)
   where
     go : (b : Bool) → _≡_ {A = ℕ} (cond b 0 0) 0
     go true = refl
@@ -34,47 +34,47 @@ share-zero x a = go (eqb x a)
 -- account x, and a move at account a; nobody's money never moves
 module _ (l : List Account) (x a : ℕ) (px : 0 < x) (h : a ≤ length l) where
   at-put : (v : Account) (P : Account → ℕ → Type 0) (n : ℕ) → (x ≡ a → P v n) → (x ≢ a → P (nth emptyAccount l x) 0)
-      → P (nth emptyAccount (put l a v) x) (share x a n)
+      → P (nth emptyAccount (put l a v) x) (fenFrom x a n)
   at-put v P n f g = go (ℕ-discrete x a)
     where
-      go : Dec (x ≡ a) → P (nth emptyAccount (put l a v) x) (share x a n)
+      go : Dec (x ≡ a) → P (nth emptyAccount (put l a v) x) (fenFrom x a n)
       go (yes e) =
           let pa : 0 < a = rw e at px in
-          rw e (rw (share-same, nth-put-same emptyAccount l a v) (f e))
-      go (no e) = rw (share-other x a n e, nth-put-other emptyAccount l x a v e) (g e)
+          rw e (rw (fenFrom-same, nth-put-same emptyAccount l a v) (f e))
+      go (no e) = rw (fenFrom-other x a n e, nth-put-other emptyAccount l x a v e) (g e)
 
-  pub free-credit : (n : Fen) → freeAt (credit a n l) x .0 ≡ freeAt l x .0 + share x a (n .0)
-  unfolding credit freeAt frozenAt
-  free-credit n = at-put _ (λ v s. v .free .0 ≡ freeAt l x .0 + s) (n .0) (λ e. rw e) (λ e. omega arith)
+  pub free-credit : (n : Fen) → freeOf (credit a n l) x .0 ≡ freeOf l x .0 + fenFrom x a (n .0)
+  unfolding credit freeOf frozenOf
+  free-credit n = at-put _ (λ v s. v .free .0 ≡ freeOf l x .0 + s) (n .0) (λ e. rw e) (λ e. omega arith)
 
-  pub frozen-credit : (n : Fen) → frozenAt (credit a n l) x .0 ≡ frozenAt l x .0
-  unfolding credit freeAt frozenAt
-  frozen-credit n = at-put _ (λ v s. v .frozen .0 ≡ frozenAt l x .0) (n .0) (λ e. rw e) (λ e. refl)
+  pub frozen-credit : (n : Fen) → frozenOf (credit a n l) x .0 ≡ frozenOf l x .0
+  unfolding credit freeOf frozenOf
+  frozen-credit n = at-put _ (λ v s. v .frozen .0 ≡ frozenOf l x .0) (n .0) (λ e. rw e) (λ e. refl)
 
-  pub free-debit : (n : Fen) → (0 < a → n .0 ≤ freeAt l a .0) → freeAt (debit a n l) x .0 + share x a (n .0) ≡ freeAt l x .0
-  unfolding debit freeAt frozenAt
-  free-debit n k = at-put _ (λ v s. v .free .0 + s ≡ freeAt l x .0) (n .0) (λ e. rw e (omega (arith, k (rw e at px)))) (λ e. omega arith)
+  pub free-debit : (n : Fen) → (0 < a → n .0 ≤ freeOf l a .0) → freeOf (debit a n l) x .0 + fenFrom x a (n .0) ≡ freeOf l x .0
+  unfolding debit freeOf frozenOf
+  free-debit n k = at-put _ (λ v s. v .free .0 + s ≡ freeOf l x .0) (n .0) (λ e. rw e (omega (arith, k (rw e at px)))) (λ e. omega arith)
 
-  pub frozen-debit : (n : Fen) → frozenAt (debit a n l) x .0 ≡ frozenAt l x .0
-  unfolding debit freeAt frozenAt
-  frozen-debit n = at-put _ (λ v s. v .frozen .0 ≡ frozenAt l x .0) (n .0) (λ e. rw e) (λ e. refl)
+  pub frozen-debit : (n : Fen) → frozenOf (debit a n l) x .0 ≡ frozenOf l x .0
+  unfolding debit freeOf frozenOf
+  frozen-debit n = at-put _ (λ v s. v .frozen .0 ≡ frozenOf l x .0) (n .0) (λ e. rw e) (λ e. refl)
 
-  pub free-release : (n : Fen) → freeAt (release a n l) x .0 ≡ freeAt l x .0 + share x a (n .0)
-  unfolding release freeAt frozenAt
-  free-release n = at-put _ (λ v s. v .free .0 ≡ freeAt l x .0 + s) (n .0) (λ e. rw e) (λ e. omega arith)
+  pub free-release : (n : Fen) → freeOf (release a n l) x .0 ≡ freeOf l x .0 + fenFrom x a (n .0)
+  unfolding release freeOf frozenOf
+  free-release n = at-put _ (λ v s. v .free .0 ≡ freeOf l x .0 + s) (n .0) (λ e. rw e) (λ e. omega arith)
 
-  pub frozen-release : (n : Fen) → (0 < a → n .0 ≤ frozenAt l a .0) → frozenAt (release a n l) x .0 + share x a (n .0) ≡ frozenAt l x .0
-  unfolding release freeAt frozenAt
+  pub frozen-release : (n : Fen) → (0 < a → n .0 ≤ frozenOf l a .0) → frozenOf (release a n l) x .0 + fenFrom x a (n .0) ≡ frozenOf l x .0
+  unfolding release freeOf frozenOf
   frozen-release n k =
-      at-put _ (λ v s. v .frozen .0 + s ≡ frozenAt l x .0) (n .0) (λ e. rw e (omega (arith, k (rw e at px)))) (λ e. omega arith)
+      at-put _ (λ v s. v .frozen .0 + s ≡ frozenOf l x .0) (n .0) (λ e. rw e (omega (arith, k (rw e at px)))) (λ e. omega arith)
 
-  pub free-freeze : (n : Fen) → (0 < a → n .0 ≤ freeAt l a .0) → freeAt (freeze a n l) x .0 + share x a (n .0) ≡ freeAt l x .0
-  unfolding freeze freeAt frozenAt
-  free-freeze n k = at-put _ (λ v s. v .free .0 + s ≡ freeAt l x .0) (n .0) (λ e. rw e (omega (arith, k (rw e at px)))) (λ e. omega arith)
+  pub free-freeze : (n : Fen) → (0 < a → n .0 ≤ freeOf l a .0) → freeOf (freeze a n l) x .0 + fenFrom x a (n .0) ≡ freeOf l x .0
+  unfolding freeze freeOf frozenOf
+  free-freeze n k = at-put _ (λ v s. v .free .0 + s ≡ freeOf l x .0) (n .0) (λ e. rw e (omega (arith, k (rw e at px)))) (λ e. omega arith)
 
-  pub frozen-freeze : (n : Fen) → frozenAt (freeze a n l) x .0 ≡ frozenAt l x .0 + share x a (n .0)
-  unfolding freeze freeAt frozenAt
-  frozen-freeze n = at-put _ (λ v s. v .frozen .0 ≡ frozenAt l x .0 + s) (n .0) (λ e. rw e) (λ e. omega arith)
+  pub frozen-freeze : (n : Fen) → frozenOf (freeze a n l) x .0 ≡ frozenOf l x .0 + fenFrom x a (n .0)
+  unfolding freeze freeOf frozenOf
+  frozen-freeze n = at-put _ (λ v s. v .frozen .0 ≡ frozenOf l x .0 + s) (n .0) (λ e. rw e) (λ e. omega arith)
 
 module _ (l : List Account) (a : ℕ) (n : Fen) where
   pub length-credit : length (credit a n l) ≡ length l
@@ -96,46 +96,46 @@ module _ (l : List Account) (a : ℕ) (n : Fen) where
 -- ── The sum over the accounts ──────────────────────────────────────────────────────────────────
 
 pub allMoney-put : (l : List Account) (a : ℕ) (v : Account) → 0 < a → a ≤ length l →
-    allMoney (put l a v) + freeAt l a .0 + frozenAt l a .0 ≡ allMoney l + v .free .0 + v .frozen .0
-unfolding nth put freeAt frozenAt
+    allMoney (put l a v) + freeOf l a .0 + frozenOf l a .0 ≡ allMoney l + v .free .0 + v .frozen .0
+unfolding nth put freeOf frozenOf
 allMoney-put l zero v p h = absurd (not-suc-le-zero p)
 allMoney-put l (suc k) v p h = omega (arith, allMoney-set l k v emptyAccount h)
 
 -- no account has more than all
-pub at-most : (l : List Account) (a : ℕ) → freeAt l a .0 + frozenAt l a .0 ≤ allMoney l
-unfolding nth freeAt frozenAt
+pub at-most : (l : List Account) (a : ℕ) → freeOf l a .0 + frozenOf l a .0 ≤ allMoney l
+unfolding nth freeOf frozenOf
 at-most l zero = omega arith
 at-most l (suc k) = money-le l k
 
 module _ (l : List Account) (a : ℕ) (n : Fen) (p : 0 < a) (h : a ≤ length l) where
   pub all-credit : allMoney (credit a n l) ≡ allMoney l + n .0
   unfolding credit
-  all-credit = omega (arith, allMoney-put l a (record { free = fen (freeAt l a .0 + n .0); frozen = frozenAt l a }) p h)
+  all-credit = omega (arith, allMoney-put l a (record { free = fen (freeOf l a .0 + n .0); frozen = frozenOf l a }) p h)
 
-  pub all-debit : n .0 ≤ freeAt l a .0 → allMoney (debit a n l) + n .0 ≡ allMoney l
+  pub all-debit : n .0 ≤ freeOf l a .0 → allMoney (debit a n l) + n .0 ≡ allMoney l
   unfolding debit
-  all-debit k = omega (arith, allMoney-put l a (record { free = fen (freeAt l a .0 - n .0); frozen = frozenAt l a }) p h)
+  all-debit k = omega (arith, allMoney-put l a (record { free = fen (freeOf l a .0 - n .0); frozen = frozenOf l a }) p h)
 
-  all-release′ : n .0 ≤ frozenAt l a .0 → allMoney (release a n l) ≡ allMoney l
+  all-release′ : n .0 ≤ frozenOf l a .0 → allMoney (release a n l) ≡ allMoney l
   unfolding release
-  all-release′ k = omega (arith, allMoney-put l a (record { free = fen (freeAt l a .0 + n .0); frozen = fen (frozenAt l a .0 - n .0) }) p h)
+  all-release′ k = omega (arith, allMoney-put l a (record { free = fen (freeOf l a .0 + n .0); frozen = fen (frozenOf l a .0 - n .0) }) p h)
 
-  all-freeze′ : n .0 ≤ freeAt l a .0 → allMoney (freeze a n l) ≡ allMoney l
+  all-freeze′ : n .0 ≤ freeOf l a .0 → allMoney (freeze a n l) ≡ allMoney l
   unfolding freeze
-  all-freeze′ k = omega (arith, allMoney-put l a (record { free = fen (freeAt l a .0 - n .0); frozen = fen (frozenAt l a .0 + n .0) }) p h)
+  all-freeze′ k = omega (arith, allMoney-put l a (record { free = fen (freeOf l a .0 - n .0); frozen = fen (frozenOf l a .0 + n .0) }) p h)
 
-pub all-release : (l : List Account) (a : ℕ) (n : Fen) → a ≤ length l → (0 < a → n .0 ≤ frozenAt l a .0) → allMoney (release a n l) ≡ allMoney l
+pub all-release : (l : List Account) (a : ℕ) (n : Fen) → a ≤ length l → (0 < a → n .0 ≤ frozenOf l a .0) → allMoney (release a n l) ≡ allMoney l
 unfolding release put
 all-release l zero n h k = refl
 all-release l (suc a) n h k = all-release′ l (suc a) n (omega arith) h (k (omega arith))
 
-pub all-freeze : (l : List Account) (a : ℕ) (n : Fen) → a ≤ length l → (0 < a → n .0 ≤ freeAt l a .0) → allMoney (freeze a n l) ≡ allMoney l
+pub all-freeze : (l : List Account) (a : ℕ) (n : Fen) → a ≤ length l → (0 < a → n .0 ≤ freeOf l a .0) → allMoney (freeze a n l) ≡ allMoney l
 unfolding freeze put
 all-freeze l zero n h k = refl
 all-freeze l (suc a) n h k = all-freeze′ l (suc a) n (omega arith) h (k (omega arith))
 
 -- n passes from one account to another, or nothing passes
-pub all-pass : (l : List Account) (a b : ℕ) (n : Fen) → 0 < a → a ≤ length l → b ≤ length l → (0 < n .0 → 0 < b) → n .0 ≤ freeAt l a .0 →
+pub all-pass : (l : List Account) (a b : ℕ) (n : Fen) → 0 < a → a ≤ length l → b ≤ length l → (0 < n .0 → 0 < b) → n .0 ≤ freeOf l a .0 →
     allMoney (credit b n (debit a n l)) ≡ allMoney l
 unfolding credit put
 all-pass l a zero n pa ha hb s k =
@@ -151,10 +151,10 @@ all-pass l a (suc b) n pa ha hb s k =
 -- ── By the index of an array ───────────────────────────────────────────────────────────────────
 
 module _ (l : List Account) (a : ℕ) (p : 0 < a) where
-  pub free-index : freeAt l a ≡ getD l (a - 1) emptyAccount .free
-  unfolding freeAt
+  pub free-index : freeOf l a ≡ getD l (a - 1) emptyAccount .free
+  unfolding freeOf
   free-index = ap (λ (v : Account). v .free) (nth-index emptyAccount l a p)
 
-  pub frozen-index : frozenAt l a ≡ getD l (a - 1) emptyAccount .frozen
-  unfolding frozenAt
+  pub frozen-index : frozenOf l a ≡ getD l (a - 1) emptyAccount .frozen
+  unfolding frozenOf
   frozen-index = ap (λ (v : Account). v .frozen) (nth-index emptyAccount l a p)

@@ -31,7 +31,7 @@ use Rattle.rules.specs.Laws.Receipts.{seller-in, buyer-in, listing-in, b
 use Rattle.rules.specs.Laws.Tables.{among-one, among-each}
 use Rattle.rules.specs.Numbers.{lacksAsk, notPayable, lacksMoney}
 use Rattle.rules.specs.Tables.{among}
-use Rattle.rules.specs.View.{freeAt, askAt, viewOf}
+use Rattle.rules.specs.View.{freeOf, askOf, viewOf}
 
 -- what is done at lot n, of record f, keeps what it has to
 abbrev pub FitsAt : Zone → ℕ → Record → AtLot → Type 0
@@ -102,7 +102,7 @@ module _ (z : Zone) (day : InRange 1 lastDay (z .day)) (c : Call) (n : ℕ) (f :
 
   -- a bid on a listing with the money for its deposit, struck and standing
   module _ (b : Bid) (s : InRange 1 2 (f .state)) (B : BidIn (listingOf f) b)
-      (m : perReceipt ≤ freeAt (z .accounts) (b .buyer) .0 + heldFrom (b .buyer) f) where
+      (m : perReceipt ≤ freeOf (z .accounts) (b .buyer) .0 + heldFrom (b .buyer) f) where
     struck-fit : FitsAt z n f (bidStruck (viewOf z (c .account) f) n f b)
     unfolding moneyOf held recordOf viewOf
     struck-fit =
@@ -145,15 +145,15 @@ module _ (z : Zone) (day : InRange 1 lastDay (z .day)) (c : Call) (n : ℕ) (f :
         differ = eqb-false _ _ (not-true _ (by-party P));
         pays = not-false _ (P .payable);
       } in
-      let m : perReceipt ≤ freeAt (z .accounts) (c .account) .0 + heldFrom (c .account) f = ltb-false _ _ (P .money) in
+      let m : perReceipt ≤ freeOf (z .accounts) (c .account) .0 + heldFrom (c .account) f = ltb-false _ _ (P .money) in
       chosen (meetsAsk (viewOf z (c .account) f) (b .price)) _ _ (λ _. struck-fit b s B m) (λ _. stands-fit b s B m)
 
-  pub marketBid-fit : askOk (askAt (z .asks) (f .contract)) ≡ true → Tested z c f 7
+  pub marketBid-fit : askOk (askOf (z .asks) (f .contract)) ≡ true → Tested z c f 7
       → FitsAt z n f (marketBid (viewOf z (c .account) f) (withKind c 7) n f)
   unfolding marketBid notPayable lacksMoney lacksAsk viewOf askOk
   marketBid-fit q P =
       let R = ranges P in
-      let b : Bid = record { buyer = c .account; price = askAt (z .asks) (f .contract) } in
+      let b : Bid = record { buyer = c .account; price = askOf (z .asks) (f .contract) } in
       struck-fit b (offered (in-state P))
       (record {
         buyer = range-in (R .0);

@@ -6,6 +6,8 @@ use mathlib.Core.Path.{_≡_, refl, sym, _∙_, subst}
 use Prim.Native.Nat.{ℕ, suc}
 use native.Mathlib.Omega.{arith}
 use borrow.Author.Tests.{not-false}
+use lib.IntN.{pos}
+use lib.ListN.{getD}
 use Rattle.units.specs.Ranges.{within}
 use Rattle.zone.specs.declared.Record.{Record}
 use Rattle.zone.specs.declared.Zone.{Zone}
@@ -14,9 +16,9 @@ use Rattle.rules.specs.declared.Call.{Call}
 use Rattle.rules.specs.declared.View.{View}
 use Rattle.rules.specs.Laws.Kinds.{withKind}
 use Rattle.rules.specs.Laws.Steps.{step-number}
-use Rattle.rules.specs.Numbers.{Field, values, valueAt, inRange, brackets, unusedZero, illFormed, outOfRange, wrongPhase, wrongState, inStateNamed, wrongParty, isPartyNamed, notAbove, lacksAsk, notPayable, lacksMoney, aboveLimit, aboveInvoice, firstNumber}
+use Rattle.rules.specs.Numbers.{Field, values, inRange, brackets, unusedZero, illFormed, outOfRange, wrongPhase, wrongState, inStateNamed, wrongParty, isPartyNamed, notAbove, lacksAsk, notPayable, lacksMoney, aboveLimit, aboveInvoice, firstNumber}
 use Rattle.rules.specs.Steps.{numberOn}
-use Rattle.rules.specs.View.{viewOf, recordAt}
+use Rattle.rules.specs.View.{viewOf, recordOfReceipt}
 
 pub record Passed (v : View) (c : Call) (f : Record) : Type 0 where
   pub form : illFormed c ≡ false
@@ -56,7 +58,7 @@ passed-all v c f h =
 
 -- the tests of call c at lot n of zone z
 abbrev pub PassedAt : Call → Zone → ℕ → Type 0
-PassedAt c z n = Passed (viewOf z (c .account) (recordAt z n)) c (recordAt z n)
+PassedAt c z n = Passed (viewOf z (c .account) (recordOfReceipt z n)) c (recordOfReceipt z n)
 
 pub passed-at : (z : Zone) (c : Call) → numberOn z c ≡ 0 → PassedAt c z (c .receipt)
 unfolding numberOn
@@ -71,12 +73,12 @@ as-kind {v} {f} c k e P = subst (λ (j : ℕ). Passed v (withKind c j) f) e P
 -- each field of the list is in its range
 abbrev pub InRanges : List Field → Call → Type 0
 InRanges [] c = Unit {0}
-InRanges (f ∷ fs) c = (f .range (valueAt (f .place) (values c)) ≡ true) × InRanges fs c
+InRanges (f ∷ fs) c = (f .range (getD (values c) (f .index) (pos 0)) ≡ true) × InRanges fs c
 
 ranges-of : (fs : List Field) (c : Call) → inRange fs (values c) ≡ true → InRanges fs c
 ranges-of [] c h = tt
 ranges-of (f ∷ fs) c h =
-    let t = both (f .range (valueAt (f .place) (values c))) (inRange fs (values c)) h in
+    let t = both (f .range (getD (values c) (f .index) (pos 0))) (inRange fs (values c)) h in
     (t .0, ranges-of fs c (t .1))
 
 -- A call that passes the test of ranges, of a kind written out: `.0` is the range of the first field in its brackets, `.1 .0` of the second ..

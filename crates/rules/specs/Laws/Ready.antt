@@ -23,17 +23,17 @@ use Rattle.rules.specs.Laws.Tables.{among-one}
 use Rattle.rules.specs.Numbers.{lacksMoney, aboveLimit, aboveInvoice}
 use Rattle.rules.specs.Ready.{Ready, ReadyCall}
 use Rattle.rules.specs.Tables.{among}
-use Rattle.rules.specs.View.{freeAt, viewOf, recordAt}
+use Rattle.rules.specs.View.{freeOf, viewOf, recordOfReceipt}
 
 -- at every lot of a good zone
-pub ready-at : (z : Zone) → Good z → (c : Call) (n : ℕ) → Ready (viewOf z (c .account) (recordAt z n)) (recordAt z n)
+pub ready-at : (z : Zone) → Good z → (c : Call) (n : ℕ) → Ready (viewOf z (c .account) (recordOfReceipt z n)) (recordOfReceipt z n)
 unfolding viewOf
 ready-at z G c n =
     record {
       valid = valid-at z G n;
       day = G .day .high;
       caller = free-in z G (c .account);
-      buyer = free-in z G (recordAt z n .buyer);
+      buyer = free-in z G (recordOfReceipt z n .buyer);
       total = G .limit;
     }
 
@@ -62,8 +62,8 @@ module _ (v : View) (c : Call) (f : Record) (ok : recordValid f ≡ true) (P : P
       }
 
 -- and at a lot of a good zone
-pub ready-call : (z : Zone) → Good z → (c : Call) (n : ℕ) → PassedAt c z n → ReadyCall c (recordAt z n)
-ready-call z G c n P = ready-with _ c (recordAt z n) (valid-at z G n) P
+pub ready-call : (z : Zone) → Good z → (c : Call) (n : ℕ) → PassedAt c z n → ReadyCall c (recordOfReceipt z n)
+ready-call z G c n P = ready-with _ c (recordOfReceipt z n) (valid-at z G n) P
 
 -- ── The openings ───────────────────────────────────────────────────────────────────────────────
 
@@ -74,7 +74,7 @@ pub record MoneyIn (z : Zone) (c : Call) : Type 0 where
 
 pub record MoneyOut (z : Zone) (c : Call) : Type 0 where
   pub account : InRange 1 accountCount (c .account)
-  pub free : c .amount ≤ freeAt (z .accounts) (c .account) .0
+  pub free : c .amount ≤ freeOf (z .accounts) (c .account) .0
 
 module _ (z : Zone) (c : Call) (P : PassedAt c z (c .receipt)) where
   pub money-in : c .kind ≡ 1 → MoneyIn z c

@@ -14,7 +14,7 @@ use Rattle.units.specs.Ranges.{within, accountCount}
 use Rattle.zone.specs.declared.Record.{Record}
 use Rattle.zone.specs.Held.{full, rest, held, heldFrom}
 use Rattle.zone.specs.Laws.Facts.{Owned, InvoicesIn, Known, known, owner-some, bounds}
-use Rattle.zone.specs.Laws.Held.{share-same, full-ge, full-le}
+use Rattle.zone.specs.Laws.Held.{fenFrom-same, full-ge, full-le}
 use Rattle.zone.specs.Laws.Lots.{ListingIn, BidIn, TradeIn}
 use Rattle.zone.specs.Laws.Tests.{InRange, inside}
 use Rattle.zone.specs.Record.{listingOf, bidOf, tradeOf, invoicesOf}
@@ -107,7 +107,7 @@ module _ (f : Record) where
   -- from its buyer it holds all that it holds
   pub held-own : heldFrom (f .buyer) f ≡ held f .0
   unfolding heldFrom
-  held-own = share-same (f .buyer) (held f .0)
+  held-own = fenFrom-same (f .buyer) (held f .0)
 
 -- ── State 6 ────────────────────────────────────────────────────────────────────────────────────
 

@@ -15,7 +15,7 @@ use Rattle.rules.specs.declared.View.{View}
 use Rattle.rules.specs.Effects.{ruleOf, ruleAt}
 use Rattle.rules.specs.Numbers.{firstNumber}
 use Rattle.rules.specs.Steps.{stepAt, stepOn, stepNumber, numberOn}
-use Rattle.rules.specs.View.{viewOf, recordAt}
+use Rattle.rules.specs.View.{viewOf, recordOfReceipt}
 
 pub step-number : (v : View) (c : Call) (f : Record) → stepNumber (stepAt v c f) ≡ firstNumber v c f
 unfolding stepAt
@@ -35,7 +35,7 @@ unfolding stepAt numberOn
 accepted-as z c a q = go (firstNumber v c f) (eqb (firstNumber v c f) 0) q
   where
     f : Record
-    f = recordAt z (c .receipt)
+    f = recordOfReceipt z (c .receipt)
 
     v : View
     v = viewOf z (c .account) f

@@ -35,7 +35,7 @@ use Rattle.rules.specs.Laws.Receipts.{Parties, parties, PartPaid, part-p
 use Rattle.rules.specs.Laws.Tables.{among-one}
 use Rattle.rules.specs.Numbers.{aboveInvoice}
 use Rattle.rules.specs.Tables.{among}
-use Rattle.rules.specs.View.{freeAt, viewOf}
+use Rattle.rules.specs.View.{freeOf, viewOf}
 
 -- a lot of state 4 whose buyer has the money
 abbrev closeSettled : ℕ → Record → AtLot
@@ -75,7 +75,7 @@ module _ (z : Zone) (day : InRange 1 lastDay (z .day)) (c : Call) (n : ℕ) (f :
         entry = omega arith;
         pays = holding refl (omega (
           arith,
-          leb-true (full f .0) (freeAt (z .accounts) (f .buyer) .0 + perReceipt) m,
+          leb-true (full f .0) (freeOf (z .accounts) (f .buyer) .0 + perReceipt) m,
           held-own f,
           held-deposit f (omega arith) (omega arith),
         ));
@@ -121,18 +121,18 @@ module _ (z : Zone) (day : InRange 1 lastDay (z .day)) (c : Call) (n : ℕ) (f :
       event (record { entry = omega arith; pays = quiet refl refl; known = idle-in (owned-in f ok (omega arith)) })
 
   -- state 7
-  fined : f .state ≡ 7 → FitsAt z n f (eventOf n f Idle 15 (penaltyPassed (freeAt (z .accounts) (f .seller)) .0))
+  fined : f .state ≡ 7 → FitsAt z n f (eventOf n f Idle 15 (penaltyPassed (freeOf (z .accounts) (f .seller)) .0))
   unfolding moneyOf recordOf
   fined s =
       let p : Parties f = parties f ok (omega arith) in
-      let m = penalty-at-most (freeAt (z .accounts) (f .seller)) in
+      let m = penalty-at-most (freeOf (z .accounts) (f .seller)) in
       event (record { entry = omega arith; pays = ending (p .buyer .low) refl (omega arith); known = idle-in (owned-in f ok (omega arith)) })
 
   pub close-fit : FitsAt z n f (closeLot (viewOf z (c .account) f) n f)
   unfolding closeLot viewOf
   close-fit =
       let money : Bool = hasMoney (viewOf z (c .account) f) f in
-      only (among (f .state) (3 ∷ 4 ∷ 7 ∷ []) && leb (f .due) (z .day)) _ λ _.
+      only (leb (f .due) (z .day)) _ λ _.
       chosen (among (f .state) (4 ∷ [])) _ _
       (λ h. chosen money _ _ (λ m. settled (among-one 4 h) m) (λ _. defaulted (among-one 4 h))) λ _.
       chosen (among (f .state) (3 ∷ [])) _ _

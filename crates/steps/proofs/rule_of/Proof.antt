@@ -1,7 +1,7 @@
 -- In each arm the callee does what the rule of one kind says, and `ruleOf` computes at that kind.
 use mathlib.Core.Path.{_≡_, sym, ap, _∙_}
 use Prim.Native.Nat.{ℕ}
-use Rattle.rules.specs.Effects.{Rule, ruleOf, noRule}
+use Rattle.rules.specs.Effects.{Rule, ruleOf, noRule, withdrawListing}
 use Rattle.steps.proofs.StepsLaws.{no-rule}
 use borrow.Author.Needs.{needs}
 use Rattle.steps.proofs.rule_of.Statement.{statement}
@@ -60,7 +60,7 @@ unfolding ruleOf
 returns-2 c = c .list-at .ensures ∙ of-kind (c .before .before) 4 (c .before .match .keys2)
 
 returns-3 : tie.Need-returns-3
-unfolding ruleOf
+unfolding ruleOf withdrawListing
 returns-3 c = c .end-listing .ensures ∙ of-kind (c .before .before) 5 (c .before .match .keys3)
 
 returns-4 : tie.Need-returns-4

@@ -31,8 +31,8 @@ judge-records-requires c κs = search needs
 asks-ok-requires : tie.Need-asks-ok-requires
 asks-ok-requires c κs = search needs
 
-frozen-ok-requires : tie.Need-frozen-ok-requires
-frozen-ok-requires c κs = search needs
+frozen-matches-requires : tie.Need-frozen-matches-requires
+frozen-matches-requires c κs = search needs
 
 money-in-requires : tie.Need-money-in-requires
 money-in-requires c κs = search needs
@@ -44,7 +44,7 @@ returns-2 c =
     rw (
       eq-eqb (length s) imageLength (c .before .before .before .before .before .before .before .before .before .before .before .before .if1 .left),
       c .before .before .before .money-in .ensures,
-      c .before .before .before .before .frozen-ok .ensures,
+      c .before .before .before .before .frozen-matches .ensures,
       c .before .before .before .before .before .before .asks-ok .ensures,
       c .before .before .before .before .before .before .before .before .judge-records .ensures .0,
       c .before .before .before .before .before .before .before .before .judge-records .ensures .1,
@@ -64,6 +64,6 @@ image-ok-spec =
     total-in-requires
     judge-records-requires
     asks-ok-requires
-    frozen-ok-requires
+    frozen-matches-requires
     money-in-requires
     returns-2)

@@ -17,10 +17,10 @@ use Rattle.units.specs.Ranges.{within, accountCount, moneyLimit, lastDay}
 use Rattle.zone.specs.declared.Account.{Account}
 use Rattle.zone.specs.declared.Hold.{Hold}
 use Rattle.zone.specs.declared.Record.{Record}
-use Rattle.zone.specs.Held.{holdOf, share, heldFrom, heldSum, allMoney}
+use Rattle.zone.specs.Held.{holdOf, fenFrom, heldFrom, heldSum, allMoney}
 use Rattle.zone.specs.Valid.{all, askOk, recordValid, frozenOk, booksOk}
 use Rattle.zone.specs.Laws.Facts.{bounds}
-use Rattle.zone.specs.Laws.Held.{held-le, share-same, share-other, share-le}
+use Rattle.zone.specs.Laws.Held.{held-le, fenFrom-same, fenFrom-other, fenFrom-le}
 use Rattle.zone.specs.Laws.Tests.{both}
 use Rattle.verdict.specs.Sums.{noHold, heldValid, heldSums, moneyUpTo, frozenFrom, frozenMatches}
 use Rattle.image.specs.Laws.Table.{getD-table, set-table}
@@ -49,11 +49,11 @@ nothing-either-way true = refl
 nothing-either-way false = refl
 
 -- a valid record's part in the sum of x
-valid-share : (x : ℕ) (r : Record) → cond (recordValid r) (heldFrom x r) 0 ≡ share x (holdIn r .from) (holdIn r .fen .0)
-unfolding heldFrom share
-valid-share x r = go (recordValid r)
+valid-from : (x : ℕ) (r : Record) → cond (recordValid r) (heldFrom x r) 0 ≡ fenFrom x (holdIn r .from) (holdIn r .fen .0)
+unfolding heldFrom fenFrom
+valid-from x r = go (recordValid r)
   where
-    go : (v : Bool) → cond v (heldFrom x r) 0 ≡ share x (cond v (holdOf r) noHold .from) (cond v (holdOf r) noHold .fen .0)
+    go : (v : Bool) → cond v (heldFrom x r) 0 ≡ fenFrom x (cond v (holdOf r) noHold .from) (cond v (holdOf r) noHold .fen .0)
     go true = refl
     go false = nothing-either-way (eqb x 0)
 
@@ -62,8 +62,8 @@ unfolding heldValid
 heldValid-le x [] = omega arith
 heldValid-le x (r ∷ rs) =
     let h = holdIn r in
-    let e : cond (recordValid r) (heldFrom x r) 0 ≡ share x (h .from) (h .fen .0) = valid-share x r in
-    omega (arith, e, share-le x (h .from) (h .fen .0), hold-bounds r .fen, heldValid-le x rs)
+    let e : cond (recordValid r) (heldFrom x r) 0 ≡ fenFrom x (h .from) (h .fen .0) = valid-from x r in
+    omega (arith, e, fenFrom-le x (h .from) (h .fen .0), hold-bounds r .fen, heldValid-le x rs)
 
 -- a sum, and that it is small
 pub sums-at : (rs : List Record) (x : ℕ) → x ≤ accountCount → getD (heldSums rs) x (fen 0) .0 ≡ heldValid x rs
@@ -82,10 +82,10 @@ pub sums-more : (rs : List Record) (r : Record) → addHold (heldSums rs) (holdI
 unfolding heldSums
 sums-more rs r =
     let h = holdIn r in
-    let more : (x : ℕ) → heldValid x (rs ++ (r ∷ [])) ≡ heldValid x rs + share x (h .from) (h .fen .0) = λ x. held-one x rs r ∙ ap (λ (n : ℕ). heldValid x rs + n) (valid-share x r) in
+    let more : (x : ℕ) → heldValid x (rs ++ (r ∷ [])) ≡ heldValid x rs + fenFrom x (h .from) (h .fen .0) = λ x. held-one x rs r ∙ ap (λ (n : ℕ). heldValid x rs + n) (valid-from x r) in
     set-table (accountCount + 1) (λ (x : ℕ). fen (heldValid x rs)) (λ (x : ℕ). fen (heldValid x (rs ++ (r ∷ [])))) (h .from) _ (fen 0) (omega (arith, hold-bounds r .from))
-    (ap fen (ap (λ (n : ℕ). n + h .fen .0) (sums-at rs (h .from) (hold-bounds r .from)) ∙ sym (more (h .from) ∙ ap (λ (n : ℕ). heldValid (h .from) rs + n) (share-same (h .from) (h .fen .0)))))
-    (λ x p ne. ap fen (sym (more x ∙ rw (share-other x (h .from) (h .fen .0) ne) (omega arith))))
+    (ap fen (ap (λ (n : ℕ). n + h .fen .0) (sums-at rs (h .from) (hold-bounds r .from)) ∙ sym (more (h .from) ∙ ap (λ (n : ℕ). heldValid (h .from) rs + n) (fenFrom-same (h .from) (h .fen .0)))))
+    (λ x p ne. ap fen (sym (more x ∙ rw (fenFrom-other x (h .from) (h .fen .0) ne) (omega arith))))
 
 -- ── Where all records are valid ────────────────────────────────────────────────────────────────
 

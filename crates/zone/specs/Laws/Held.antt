@@ -23,7 +23,7 @@ use Rattle.zone.specs.declared.Listing.{Listing}
 use Rattle.zone.specs.declared.Lot.{Lot}
 use Rattle.zone.specs.declared.Lot.the-variants.{Idle, Listed, BidStands, Struck, Lodged, Settled, FirstPaid, PenaltyDue}
 use Rattle.zone.specs.declared.Record.{Record}
-use Rattle.zone.specs.Held.{full, rest, held, share, heldFrom, heldSum, allMoney}
+use Rattle.zone.specs.Held.{full, rest, held, fenFrom, heldFrom, heldSum, allMoney}
 use Rattle.zone.specs.Record.{recordAs, recordOf}
 use Rattle.zone.specs.Valid.{all, emptyAccount, recordValid}
 use Rattle.zone.specs.Laws.Tests.{both, price-at-most, basis-at-most, InRange, in-range, filled-either}
@@ -124,18 +124,18 @@ held-lot o w (PenaltyDue s b d) = refl
 
 -- ── From one account ───────────────────────────────────────────────────────────────────────────
 
--- a share is the whole for the account named and nothing for any other
-pub share-same : (x n : ℕ) → share x x n ≡ n
-unfolding share
-share-same x n = rw (eq-eqb x x refl)
+-- the whole for the account named and nothing for any other
+pub fenFrom-same : (x n : ℕ) → fenFrom x x n ≡ n
+unfolding fenFrom
+fenFrom-same x n = rw (eq-eqb x x refl)
 
-pub share-other : (x a n : ℕ) → x ≢ a → share x a n ≡ 0
-unfolding share
-share-other x a n h = rw (ne-eqb x a h)
+pub fenFrom-other : (x a n : ℕ) → x ≢ a → fenFrom x a n ≡ 0
+unfolding fenFrom
+fenFrom-other x a n h = rw (ne-eqb x a h)
 
-pub share-le : (x a n : ℕ) → share x a n ≤ n
-unfolding share
-share-le x a n = go (eqb x a)
+pub fenFrom-le : (x a n : ℕ) → fenFrom x a n ≤ n
+unfolding fenFrom
+fenFrom-le x a n = go (eqb x a)
   where
     go : (b : Bool) → cond b n 0 ≤ n
     go true = omega arith
@@ -144,7 +144,7 @@ share-le x a n = go (eqb x a)
 -- what a valid record holds from one account
 pub heldFrom-le : (x : ℕ) (r : Record) → recordValid r ≡ true → heldFrom x r ≤ mostFull
 unfolding heldFrom
-heldFrom-le x r h = omega (arith, share-le x (r .buyer) (held r .0), held-le r h)
+heldFrom-le x r h = omega (arith, fenFrom-le x (r .buyer) (held r .0), held-le r h)
 
 module _ {A : Type 0} (rec : A → Record) (x : ℕ) where
   -- the sum after one lot has changed

@@ -15,7 +15,7 @@ use Rattle.units.specs.Ranges.{lastDay, moneyLimit}
 use Rattle.zone.specs.declared.Account.{Account}
 use Rattle.zone.specs.declared.Record.{Record}
 use Rattle.zone.specs.declared.Zone.{Zone}
-use Rattle.zone.specs.Held.{full, held, share, heldFrom, heldSum, allMoney}
+use Rattle.zone.specs.Held.{full, held, fenFrom, heldFrom, heldSum, allMoney}
 use Rattle.zone.specs.Record.{recordOf}
 use Rattle.zone.specs.Valid.{all, askOk, blank, frozenOk, booksOk, validZone, emptyAccount, freshZone, recordValid}
 use Rattle.zone.specs.Laws.Tests.{both, join, InRange, range-in, in-range}
@@ -126,5 +126,5 @@ zone-valid z B = in-books recordOf _ _ _ _ _ B
 
 -- a fresh zone is valid
 pub fresh-valid : validZone freshZone ≡ true
-unfolding validZone booksOk freshZone all askOk frozenOk recordValid blank recordOf heldSum heldFrom share held full allMoney
+unfolding validZone booksOk freshZone all askOk frozenOk recordValid blank recordOf heldSum heldFrom fenFrom held full allMoney
 fresh-valid = refl

@@ -11,7 +11,7 @@ use Rattle.zone.specs.Parts.{withAccounts}
 use Rattle.zone.specs.Valid.{emptyAccount}
 use Rattle.image.specs.Image.{decode, encode}
 use Rattle.image.specs.Laws.RoundTrip.{same-long, account-in-place}
-use Rattle.rules.specs.View.{freeAt, frozenAt}
+use Rattle.rules.specs.View.{freeOf, frozenOf}
 use Rattle.events.specs.Laws.Changed.{at-index, changed-nobody, changed-index}
 use borrow.Author.Needs.{needs}
 use Rattle.events.proofs.money.change.Statement.{statement}
@@ -21,10 +21,10 @@ use Rattle.events.proofs.money.change.Tie as tie
 here : (c : tie.After-account-at) → c .account-at .result ≡ getD (decode (now (c .before .before .before .before .args .image)) .accounts) (c .before .before .before .before .args .a - 1) emptyAccount
 here c = c .account-at .ensures ∙ account-in-place (now (c .before .before .before .before .args .image)) (c .before .before .before .before .args .a - 1) (omega (arith, c .before .before .before .before .pre .1 .place))
 
-free-here : (c : tie.After-account-at) → c .account-at .result .free .0 ≡ freeAt (decode (now (c .before .before .before .before .args .image)) .accounts) (c .before .before .before .before .args .a) .0
+free-here : (c : tie.After-account-at) → c .account-at .result .free .0 ≡ freeOf (decode (now (c .before .before .before .before .args .image)) .accounts) (c .before .before .before .before .args .a) .0
 free-here c = ap (λ (v : Account). v .free .0) (here c) ∙ sym (at-index (decode (now (c .before .before .before .before .args .image)) .accounts) (c .before .before .before .before .args .a) (omega arith) .free)
 
-frozen-here : (c : tie.After-account-at) → c .account-at .result .frozen .0 ≡ frozenAt (decode (now (c .before .before .before .before .args .image)) .accounts) (c .before .before .before .before .args .a) .0
+frozen-here : (c : tie.After-account-at) → c .account-at .result .frozen .0 ≡ frozenOf (decode (now (c .before .before .before .before .args .image)) .accounts) (c .before .before .before .before .args .a) .0
 frozen-here c = ap (λ (v : Account). v .frozen .0) (here c) ∙ sym (at-index (decode (now (c .before .before .before .before .args .image)) .accounts) (c .before .before .before .before .args .a) (omega arith) .frozen)
 
 returns : tie.Need-returns

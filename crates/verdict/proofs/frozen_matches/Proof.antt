@@ -12,8 +12,8 @@ use Rattle.verdict.specs.Sums.{frozenFrom}
 use Rattle.image.specs.Laws.Table.{table-suc, length-table}
 use Rattle.verdict.specs.Laws.Turns.{frozen-one}
 use borrow.Author.Needs.{needs}
-use Rattle.verdict.proofs.frozen_ok.Statement.{statement}
-use Rattle.verdict.proofs.frozen_ok.Tie as tie
+use Rattle.verdict.proofs.frozen_matches.Statement.{statement}
+use Rattle.verdict.proofs.frozen_matches.Tie as tie
 
 abbrev Inv-loop : tie.InvT-loop
 Inv-loop image sums ok₀ i₀ ok i = (i ≤ accountCount) × (length sums ≡ accountCount + 1) × (ok ≡ frozenFrom 1 (table i (λ k. accountIn (accountRun image k))) sums)
@@ -58,8 +58,8 @@ returns c =
     let e : l .i ≡ accountCount = omega arith in
     l .inv .2 ∙ ap (λ (n : ℕ). frozenFrom 1 (table n f) (c .before .before .before .args .t2)) e
 
-pub frozen-ok-spec : {M : Type 1} → statement M
-frozen-ok-spec =
+pub frozen-matches-spec : {M : Type 1} → statement M
+frozen-matches-spec =
     tie.close
     (tie.spec
     Inv-loop

@@ -2,8 +2,8 @@
 use Rattle.put.proofs.Runs.{whole}
 use denote.Ref.{now}
 use borrow.Author.Needs.{needs}
-use Rattle.put.proofs.record_run.Statement.{statement}
-use Rattle.put.proofs.record_run.Tie as tie
+use Rattle.put.proofs.record_bytes.Statement.{statement}
+use Rattle.put.proofs.record_bytes.Tie as tie
 
 record-start-requires : tie.Need-record-start-requires
 record-start-requires c κs = search needs
@@ -49,8 +49,8 @@ returns c =
     whole (c .before .before .before .before .before .before .before .before .before .before .before .before .before .before .before .before .before .before .before .before .before .before .before .before .args .at) (c .before .before .before .before .before .before .before .before .before .before .before .before .before .before .before .before .before .before .before .before .before .before .before .before .args .r) (now (c .before .before .before .before .before .before .before .before .before .before .before .before .before .before .before .before .before .before .before .before .before .before .before .before .args .image)) (c .before .before .before .before .before .before .before .before .before .before .before .before .before .low-half .result) (c .before .before .before .before .before .before .before .before .low-half2 .result) (c .before .before .before .low-half3 .result) (c .before .before .before .before .before .before .before .before .before .before .before .before .before .low-half .ensures) (c .before .before .before .before .before .before .before .before .low-half2 .ensures) (c .before .before .before .low-half3 .ensures)
     (c .before .before .before .before .before .before .before .before .before .before .before .before .before .before .before .before .before .before .before .before .before .record-start .ensures) (c .before .before .before .before .before .before .before .before .before .before .before .before .before .before .before .before .before .put-u32 .ensures) (c .before .before .before .before .before .before .before .before .before .before .before .before .put-u322 .ensures) (c .before .before .before .before .before .before .before .put-u323 .ensures) (c .before .before .put-u324 .ensures)
 
-pub record-run-spec : {M : Type 1} → statement M
-record-run-spec =
+pub record-bytes-spec : {M : Type 1} → statement M
+record-bytes-spec =
     tie.close
     (tie.spec
     record-start-requires

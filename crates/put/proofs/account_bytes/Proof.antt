@@ -7,8 +7,8 @@ use Rattle.wire.specs.LittleEndian.{leBytes}
 use Rattle.wire.specs.Laws.Bytes.{sets-append, length-leBytes}
 use Rattle.image.specs.Layout.{accountBytes}
 use borrow.Author.Needs.{needs}
-use Rattle.put.proofs.account_run.Statement.{statement}
-use Rattle.put.proofs.account_run.Tie as tie
+use Rattle.put.proofs.account_bytes.Statement.{statement}
+use Rattle.put.proofs.account_bytes.Tie as tie
 
 put-u64-requires : tie.Need-put-u64-requires
 put-u64-requires c κs = search needs
@@ -28,5 +28,5 @@ returns c =
     let n = length-leBytes 8 (c .before .before .before .before .before .before .before .before .before .args .a .free .0) in
     c .before .before .put-u642 .ensures ∙ ap (λ (s : List ℕ). sets s (c .before .before .before .before .before .before .before .before .before .args .at + 8) (leBytes 8 (c .before .before .before .before .before .before .before .before .before .args .a .frozen .0))) (c .before .before .before .before .before .before .put-u64 .ensures) ∙ rw (sets-append, n)
 
-pub account-run-spec : {M : Type 1} → statement M
-account-run-spec = tie.close (tie.spec put-u64-requires add-put-u64 put-u64-requires-2 same-length returns)
+pub account-bytes-spec : {M : Type 1} → statement M
+account-bytes-spec = tie.close (tie.spec put-u64-requires add-put-u64 put-u64-requires-2 same-length returns)
