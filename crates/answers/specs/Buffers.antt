@@ -1,5 +1,5 @@
 -- The call record and the answer buffer as bytes (01 Calls 2, Answers 1 to 3, 25). Every length and place is named here once; src/lib.rt has
--- a const for each.
+-- a const for each that it uses.
 -- Assumes nothing.
 use mathlib.Core.Bool.{Bool, cond}
 use mathlib.Core.List.{List, [], _∷_, _++_}
@@ -131,7 +131,7 @@ unfoldable pub acceptedBytes : Zone → List Entry → List ℕ
 acceptedBytes z es = headerOf (z .afternoon) (length es) (z .total .0) ++ tableBytes entryBytes es
 
 -- The bytes from the start of the answer on, zeros behind them to its length, and what stands past that as it was. Nothing is taken
--- that is not there: no call lists more than an entry a lot (`effect-few`, Laws/Entries).
+-- that is not there: no call lists more than an entry a lot (`effect-few`, crz, Laws/Entries).
 unfoldable pub padded : List ℕ → List ℕ → List ℕ
 padded bytes old = bytes ++ replicate (answerLength - length bytes) 0 ++ drop answerLength old
 

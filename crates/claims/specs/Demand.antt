@@ -1,5 +1,6 @@
--- Demand 3 (01 History 8 to 11): what holds after every list of calls on a fresh image, refused ones among them, with buffers of any length
--- and content. The history is fed from the call records and the answers as they were on return; nothing comes from the image. Free, frozen
+-- Demand 3, the third of what the library owes its desk (README): after every list of calls on a fresh image, refused ones among them, with
+-- buffers of any length and content, four sentences hold by the accepted calls and their answers alone. 01 History 8 to 11 says what their
+-- words mean. The history is fed from the call records and the answers as they were on return; nothing comes from the image. Free, frozen
 -- and owner are those of the image after the list. The proof is in Laws/; nothing of it is needed to read this page.
 -- Assumes nothing.
 use mathlib.Core.Bool.{true}
@@ -45,14 +46,15 @@ fed x = (callIn (x .call), replyOf (x .number) (x .answer))
 
 -- ── The four sentences ─────────────────────────────────────────────────────────────────────────
 
--- What the history of a list says of the zone after it. Accounts and receipts are those that there are; `history` takes the newest call first.
+-- What the history of a list says of the zone after it, a field for each sentence, and `exact` beside them, so that no sentence rests on a
+-- difference that stops at 0. Accounts and receipts are those that there are; `history` takes the newest call first.
 pub record Holds (list : List (Call × Reply)) (z : Zone) : Type 0 where
   -- the books balance for every account: what it has, took out and passed on is what it paid in and was passed
   pub books : (x : ℕ) → 1 ≤ x → x ≤ accountCount →
       freeOf (z .accounts) x .0 + frozenOf (z .accounts) x .0 + history list .takeOuts x + history list .sent x ≡ history list .payIns x + history list .got x
   -- frozen money is what the history table holds
   pub frozen : (x : ℕ) → 1 ≤ x → x ≤ accountCount → frozenOf (z .accounts) x .0 ≡ heldOver x receiptCount 1 (history list)
-  -- and the table holds it exactly: of no lot was more paid than settled
+  -- and the table holds it exactly: of no lot was more paid than its settlement said
   pub exact : (k : ℕ) → 1 ≤ k → k ≤ receiptCount → Exact (history list .lots k)
   -- every receipt belongs to its latest settled buyer or its registrant
   pub owners : (k : ℕ) → 1 ≤ k → k ≤ receiptCount → receiptOfNumber (z .receipts) k .owner ≡ belongs (history list .lots k)

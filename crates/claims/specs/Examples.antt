@@ -1,4 +1,4 @@
--- The paper's fourteen examples (01 Examples 1 to 14), together as one fact of the rules, by computing on whole zones from a fresh one.
+-- The paper's fourteen examples (01 Examples 1 to 14), together as one fact of the rules, by computing: 1, 2, 3 and 6 on payments, the others on whole zones from a fresh one.
 -- Assumes nothing.
 use mathlib.Core.List.{List, [], _∷_, _++_}
 use mathlib.Core.Path.{_≡_, refl}
@@ -12,7 +12,7 @@ use Rattle.rules.specs.Tables.{nth}
 use Rattle.rules.specs.View.{freeOf, receiptOfNumber, recordOfReceipt}
 use Rattle.claims.specs.History.{Reply, refusedWith}
 use Rattle.claims.specs.Replay.{replyTo, replay, zoneAfter}
-use Rattle.claims.specs.Words.{payIn, registers, lists, bids, bidsMarket, quote, lodges, morningClose, firstPaid, invoices, confirms, dayClose, noEntries, oneEntry}
+use Rattle.claims.specs.Words.{payIn, registers, lists, bids, bidsMarket, quote, lodges, morningClose, takesFirstPayment, sendsInvoice, confirms, dayClose, noEntries, oneEntry}
 
 -- Ginner 1 registers receipt 7 and lists it at contract 1; mill 2 has paid in.
 abbrev market : ℕ → ℤ → ℕ → ℕ → List Call
@@ -22,14 +22,14 @@ market weight basis days paidIn = payIn 2 paidIn ∷ registers 1 7 weight ∷ li
 abbrev opened : List Reply
 opened = noEntries ∷ oneEntry 7 1 1 0 0 ∷ oneEntry 7 2 1 0 0 ∷ []
 
--- the answers to the calls that follow such an opening
+-- the replies to such an opening and to the calls that follow it
 abbrev run : ℕ → ℤ → ℕ → List Call → List Reply
 run weight basis paidIn calls = replay (market weight basis 0 paidIn ++ calls) freshZone
 
--- whole days with nothing but their closes
-abbrev days : ℕ → List Call → List Call
-days zero calls = calls
-days (suc n) calls = morningClose ∷ dayClose ∷ days n calls
+-- the calls after n whole days with nothing but their closes
+abbrev afterDays : ℕ → List Call → List Call
+afterDays zero calls = calls
+afterDays (suc n) calls = morningClose ∷ dayClose ∷ afterDays n calls
 
 -- the due day of the lot after the calls
 abbrev dueAfter : List Call → ℕ
@@ -44,8 +44,8 @@ pub record FourteenExamples : Type 0 where
   pub money : MoneyExamples
   -- 4, the parts of three invoices: 6, 6 and 8
   pub four : run 1000 (negsuc 3) 5000000
-      (bids 2 7 5 ∷ quote 1 5 ∷ lodges 1 7 ∷ morningClose ∷ firstPaid 1 7 ∷ invoices 1 7 33 ∷ confirms 2 7 ∷ invoices 1 7 33 ∷ confirms 2 7
-      ∷ invoices 1 7 34 ∷ confirms 2 7 ∷ [])
+      (bids 2 7 5 ∷ quote 1 5 ∷ lodges 1 7 ∷ morningClose ∷ takesFirstPayment 1 7 ∷ sendsInvoice 1 7 33 ∷ confirms 2 7 ∷ sendsInvoice 1 7 33 ∷ confirms 2 7
+      ∷ sendsInvoice 1 7 34 ∷ confirms 2 7 ∷ [])
       ≡ opened ++ (oneEntry 7 4 2 1 5 ∷ oneEntry 7 6 2 1 5 ∷ oneEntry 7 7 1 2 0 ∷ oneEntry 7 8 2 1 100 ∷ oneEntry 7 9 2 1 80 ∷ oneEntry 7 10 1 2 33 ∷ oneEntry 7 11 2 1 6
       ∷ oneEntry 7 10 1 2 33 ∷ oneEntry 7 11 2 1 6 ∷ oneEntry 7 10 1 2 34 ∷ oneEntry 7 11 2 1 8 ∷ [])
   -- 5, nothing to pay
@@ -65,8 +65,8 @@ pub record FourteenExamples : Type 0 where
   pub eleven-free : freeAfter 2 (market 41237 (pos 300) 0 5000000 ++ (bids 2 7 15000 ∷ [])) ≡ 0
   pub eleven : run 41237 (pos 300) 5000000 (bids 2 7 15000 ∷ bids 2 7 15005 ∷ []) ≡ opened ++ (oneEntry 7 4 2 1 15000 ∷ oneEntry 7 4 2 1 15005 ∷ [])
   -- 12, D 0 on day 5, in the morning and in the afternoon
-  pub twelve : dueAfter (days 4 (market 41237 (pos 300) 0 5000000 ++ (quote 1 15000 ∷ bidsMarket 2 7 ∷ []))) ≡ 5
-  pub twelve-afternoon : dueAfter (days 4 (market 41237 (pos 300) 0 5000000 ++ (quote 1 15000 ∷ morningClose ∷ bidsMarket 2 7 ∷ []))) ≡ 6
+  pub twelve : dueAfter (afterDays 4 (market 41237 (pos 300) 0 5000000 ++ (quote 1 15000 ∷ bidsMarket 2 7 ∷ []))) ≡ 5
+  pub twelve-afternoon : dueAfter (afterDays 4 (market 41237 (pos 300) 0 5000000 ++ (quote 1 15000 ∷ morningClose ∷ bidsMarket 2 7 ∷ []))) ≡ 6
   -- 13, the money to settle, and one fen less
   pub thirteen-free : freeAfter 2 (market 41237 (pos 300) 0 63092610 ++ (bids 2 7 15000 ∷ quote 1 15000 ∷ lodges 1 7 ∷ [])) ≡ 58092610
   pub thirteen : run 41237 (pos 300) 63092610 (bids 2 7 15000 ∷ quote 1 15000 ∷ lodges 1 7 ∷ morningClose ∷ [])

@@ -1,5 +1,5 @@
--- The history table (01 History): fed with call records and the entries of answers alone. Nothing here comes from the rules or from the
--- zone.
+-- The history table (01 History): fed with call records and the entries of answers alone. Of the rules it has no more than what a call and
+-- an entry are, and the deposit.
 -- Assumes nothing.
 use mathlib.Core.Bool.{Bool, true, false, cond}
 use mathlib.Core.List.{List, [], _∷_}
@@ -117,7 +117,7 @@ history (a ∷ list) = feed (a .0) (a .1) (history list)
 
 -- ── What the table holds (01 History 7) ────────────────────────────────────────────────────────
 
--- the lot's last entry is the settlement or a step after it that is not the end
+-- the lot's last entry is the settlement or one that follows it; after the last 11 nothing of its number is left
 abbrev pub afterSettlement : Past → Bool
 afterSettlement p = oneOf (p .last) (8 ∷ 9 ∷ 10 ∷ 11 ∷ [])
 

@@ -15,7 +15,7 @@ use Rattle.rules.specs.Effects.{effect}
 use Rattle.rules.specs.Events.{Done}
 use Rattle.rules.specs.Steps.{numberOn}
 
--- the fields of an entry fit their bytes (01 Answers 3)
+-- a lot, an outcome, an account and an account or nobody, and a number of four bytes (01 Answers 3)
 pub record EntryFits (e : Entry) : Type 0 where
   pub lot : (1 ≤ e .lot) × (e .lot ≤ receiptCount)
   pub outcome : (1 ≤ e .outcome) × (e .outcome ≤ 15)
@@ -28,12 +28,13 @@ abbrev pub NumbersFit : List Entry → Type 0
 NumbersFit [] = Unit {0}
 NumbersFit (e ∷ es) = (e .number < 2 ^ 32) × NumbersFit es
 
--- the entries are of lots from n on, each above the one before it (01 Answers 4)
+-- the entries are of lots from n on, each above the one before it (01 Answers 4), with fields in their ranges
 abbrev pub Ascending : ℕ → List Entry → Type 0
 Ascending n [] = Unit {0}
 Ascending n (e ∷ es) = (n ≤ e .lot) × EntryFits e × Ascending (suc (e .lot)) es
 
--- what a call left keeps: the lengths of the tables, validity, the order of the entries and their room in an answer
+-- what holds of the zone and the entries that a call leaves: the lengths of the tables, validity, the order of the entries and their room in
+-- an answer
 pub record Kept (d : Done) : Type 0 where
   pub sized : Sized (d .zone)
   pub valid : validZone (d .zone) ≡ true

@@ -23,12 +23,12 @@ call kind account receipt contract days amount basis weight =
       weight = weight;
     }
 
--- a call of an account at a receipt, with an amount or a price
-abbrev pub at : ℕ → ℕ → ℕ → ℕ → Call
-at kind account receipt amount = call kind account receipt 0 0 amount (pos 0) 0
+-- a call with an account, a receipt and an amount or a price at most
+abbrev pub simpleCall : ℕ → ℕ → ℕ → ℕ → Call
+simpleCall kind account receipt amount = call kind account receipt 0 0 amount (pos 0) 0
 
 abbrev pub payIn : ℕ → ℕ → Call
-payIn account amount = at 1 account 0 amount
+payIn account amount = simpleCall 1 account 0 amount
 
 abbrev pub registers : ℕ → ℕ → ℕ → Call
 registers account receipt weight = call 3 account receipt 0 0 0 (pos 0) weight
@@ -37,34 +37,34 @@ abbrev pub lists : ℕ → ℕ → ℕ → ℕ → ℤ → Call
 lists account receipt contract days basis = call 4 account receipt contract days 0 basis 0
 
 abbrev pub bids : ℕ → ℕ → ℕ → Call
-bids account receipt price = at 6 account receipt price
+bids account receipt price = simpleCall 6 account receipt price
 
 abbrev pub bidsMarket : ℕ → ℕ → Call
-bidsMarket account receipt = at 7 account receipt 0
+bidsMarket account receipt = simpleCall 7 account receipt 0
 
 abbrev pub withdrawsBid : ℕ → ℕ → Call
-withdrawsBid account receipt = at 8 account receipt 0
+withdrawsBid account receipt = simpleCall 8 account receipt 0
 
 abbrev pub quote : ℕ → ℕ → Call
 quote contract price = call 9 0 0 contract 0 price (pos 0) 0
 
 abbrev pub lodges : ℕ → ℕ → Call
-lodges account receipt = at 10 account receipt 0
+lodges account receipt = simpleCall 10 account receipt 0
 
 abbrev pub morningClose : Call
-morningClose = at 11 0 0 0
+morningClose = simpleCall 11 0 0 0
 
-abbrev pub firstPaid : ℕ → ℕ → Call
-firstPaid account receipt = at 12 account receipt 0
+abbrev pub takesFirstPayment : ℕ → ℕ → Call
+takesFirstPayment account receipt = simpleCall 12 account receipt 0
 
-abbrev pub invoices : ℕ → ℕ → ℕ → Call
-invoices account receipt amount = at 13 account receipt amount
+abbrev pub sendsInvoice : ℕ → ℕ → ℕ → Call
+sendsInvoice account receipt amount = simpleCall 13 account receipt amount
 
 abbrev pub confirms : ℕ → ℕ → Call
-confirms account receipt = at 14 account receipt 0
+confirms account receipt = simpleCall 14 account receipt 0
 
 abbrev pub dayClose : Call
-dayClose = at 15 0 0 0
+dayClose = simpleCall 15 0 0 0
 
 -- ── Replies ────────────────────────────────────────────────────────────────────────────────────
 

@@ -84,7 +84,7 @@ fn close_penalty(v: View, n: u8, f: Record) -> AtLot
     )
 }
 
-// A lot with a due day, once that day has come. Lots of other states are passed over before; the record of no receipt, which a close
+// A lot of state 3, 4 or 7 on its due day or later. Lots of other states are passed over before; the record of no receipt, which a close
 // names, comes here.
 pub fn close_at(v: View, n: u8, f: Record) -> AtLot
     requires { ⌜ Ready v f ⌝ }

@@ -11,7 +11,7 @@ use Rattle.rules.specs.Tables.{put}
 use Rattle.rules.specs.View.{freeOf, frozenOf}
 
 -- Added to and taken from the free money of account a, held and freed of its frozen money. Nothing is taken that is not there: the code asks
--- for `Affords`, which its callers have from `funded` (rules, Laws/Fit).
+-- for `Affords`, which its callers have from `funded` (rules, Laws/Fit), and of a take-out from `money-out` (rules, Laws/Ready).
 unfoldable pub changed : ℕ → Fen → Fen → Fen → Fen → List Account → List Account
 changed a added taken held freed l =
     put l a (record {

@@ -21,13 +21,13 @@ abbrev pub firstThatApplies : List (ℕ × Bool) → ℕ
 firstThatApplies [] = 0
 firstThatApplies (r ∷ rs) = cond (r .1) (r .0) (firstThatApplies rs)
 
--- Accounts, receipts and contracts count from 1 (01 Image 6): element a of a table, and d for 0, which is nobody.
+-- Accounts, receipts and contracts count from 1 (01 Image 6): element n of a table, and d for 0, which is nobody.
 module _ {A : Type 0} where
   unfoldable pub nth : A → List A → ℕ → A
   nth d l zero = d
   nth d l (suc k) = getD l k d
 
-  -- the table with another element a; of nobody nothing is changed
+  -- the table with v as its element n; of nobody nothing is changed
   unfoldable pub put : List A → ℕ → A → List A
-  put l zero a = l
-  put l (suc k) a = set l k a
+  put l zero v = l
+  put l (suc k) v = set l k v

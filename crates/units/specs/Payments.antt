@@ -59,7 +59,7 @@ partPayment full confirmed paid invoice =
 abbrev pub perReceipt : ℕ
 perReceipt = 5000000
 
--- frozen from the buyer while a bid stands and until a trade is closed
+-- frozen from the buyer while a bid stands, and until its trade is settled or ends
 abbrev pub deposit : Fen
 deposit = fen perReceipt
 

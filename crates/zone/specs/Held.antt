@@ -19,7 +19,7 @@ full r = fullPayment (r .price) (r .basis) (r .weight)
 abbrev pub rest : Record → Fen
 rest r = restPayment (full r)
 
--- What the lot holds: the deposit from a bid until the trade is closed, full once it is settled, then the rest that is not paid yet.
+-- What the lot holds: the deposit in states 2 to 4, full once it is settled, then the rest that is not paid yet.
 -- Nothing is taken that is not there: `paid-le-rest` (Laws/Held).
 unfoldable pub held : Record → Fen
 held r =

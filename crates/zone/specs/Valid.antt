@@ -75,11 +75,11 @@ noInvoicesOk r = eqb (r .pending .0) 0 && eqb (r .confirmed .0) 0 && eqb (r .pai
 unfoldable pub invoicesOk : Record → Bool
 invoicesOk r = cond (eqb (r .state) 6) (invoicesWithin r) (noInvoicesOk r)
 
--- a registered receipt: one of the eight states, an owner, a weight, and what the state fills
+-- a registered receipt: one of the eight states, an owner, a weight, and what the state fills beside invoices
 unfoldable pub fieldsOk : Record → Bool
 fieldsOk r = leb (r .state) 7 && isAccount (r .owner) && isWeight (r .weight .0) && listingOk r && bidOk r && dueOk r && ownerOk r
 
--- nobody's receipt is blank, a registered one has what its state asks (01 Image 8, 15)
+-- a record without an owner is blank, one with an owner has what its state asks (01 Image 8, 15)
 unfoldable pub recordValid : Record → Bool
 recordValid r = cond (eqb (r .owner) 0) (blank r) (fieldsOk r && invoicesOk r)
 
