@@ -1,5 +1,5 @@
 -- The call record and the answer buffer as bytes (01 Calls 2, Answers 1 to 3, 25). Every length and place is named here once; src/lib.rt has
--- a const for each that it uses.
+-- a const for each.
 -- Assumes nothing.
 use mathlib.Core.Bool.{Bool, cond}
 use mathlib.Core.List.{List, [], _∷_, _++_}

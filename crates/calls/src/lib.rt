@@ -25,7 +25,7 @@ use units::YuanPerTonne;
 
 // ── All lots in ascending order ─────────────────────────────────────────────────────────────────
 
-fn goes_through_all(c: Call) -> bool
+fn sweeps(c: Call) -> bool
     ensures { λ x. ⌜ x ≡ sweeps (c .kind) ⌝ }
 {
     let kind = c.kind;
@@ -146,7 +146,7 @@ pub fn perform(image: &mut [u8], c: Call, at: AtLot) -> Entries
     ensures { λ r. ⌜ (now (image .exit) ≡ encode (effect (decode (now (image .entry))) c .zone)) × (r ≡ entryArray (effect (decode (now (image .entry))) c .entries)) ⌝ }
 {
     open_call(image, c);
-    let entries = if goes_through_all(c) {
+    let entries = if sweeps(c) {
         sweep_lots(image, c)
     } else {
         post_one(image, at)

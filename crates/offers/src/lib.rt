@@ -1,7 +1,7 @@
 // The code of the rules of registration, listings and bids: kinds 3 to 9.
 ghost use mathlib.Core.Path.{_≡_};
 ghost use Prim.Native.Nat.{_≤_};
-ghost use Rattle.units.specs.Ranges.{mostPrice, lastDay};
+ghost use Rattle.units.specs.Ranges.{mostPrice, lastDay, mostDays};
 ghost use Rattle.rules.specs.Effects.{dueDay, bidStands, bidStruck, meetsAsk, register, listFor, listingEnded, limitBid, marketBid, withdrawBid, quoteLot};
 ghost use Rattle.rules.specs.Ready.{Ready};
 use rules::AtLot;
@@ -65,7 +65,7 @@ pub fn end_listing(n: u8, f: Record) -> AtLot
 // ── Bids ────────────────────────────────────────────────────────────────────────────────────────
 
 fn due_day(v: View, days: u8) -> u16
-    requires { ⌜ (v .day ≤ lastDay) × (days ≤ 3) ⌝ }
+    requires { ⌜ (v .day ≤ lastDay) × (days ≤ mostDays) ⌝ }
     ensures { λ x. ⌜ x ≡ dueDay v days ⌝ }
 {
     if v.afternoon & (days == 0) {

@@ -43,7 +43,7 @@ pub fn account_bytes(image: &mut [u8], at: usize, a: Account)
 }
 
 // A record's single bytes, due day, weight and basis.
-fn record_start(image: &mut [u8], at: usize, r: Record)
+fn record_first_fields(image: &mut [u8], at: usize, r: Record)
     requires { ⌜ at + receiptLength ≤ length (now image) ⌝ }
     ensures { λ _. ⌜ now (image .exit) ≡ sets (now (image .entry)) at (take pricePlace (recordBytes r)) ⌝ }
 {
@@ -65,7 +65,7 @@ pub fn record_bytes(image: &mut [u8], at: usize, r: Record)
     requires { ⌜ at + receiptLength ≤ length (now image) ⌝ }
     ensures { λ _. ⌜ now (image .exit) ≡ sets (now (image .entry)) at (recordBytes r) ⌝ }
 {
-    record_start(image, at, r);
+    record_first_fields(image, at, r);
     wire::put_u32(image, at + PRICE_PLACE, r.price.0);
     wire::put_u32(image, at + PENDING_PLACE, low_half(r.pending));
     wire::put_u32(image, at + CONFIRMED_PLACE, low_half(r.confirmed));

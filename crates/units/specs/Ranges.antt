@@ -41,9 +41,13 @@ isContract n = within 1 contractCount n
 
 -- ── Days, prices, weights, amounts ─────────────────────────────────────────────────────────────
 
+-- the most days that a delivery may take
+abbrev pub mostDays : ℕ
+mostDays = 3
+
 -- D, the days from strike to delivery
 abbrev pub isDays : ℕ → Bool
-isDays n = leb n 3
+isDays n = leb n mostDays
 
 -- the highest price
 abbrev pub mostPrice : ℕ
@@ -65,13 +69,16 @@ mostBasis = 50000
 abbrev pub isBasis : ℤ → Bool
 isBasis b = leZ (negsuc (mostBasis - 1)) b && leZ b (pos mostBasis)
 
--- the heaviest receipt
+-- the lightest receipt, and the heaviest
+abbrev pub leastWeight : ℕ
+leastWeight = 1000
+
 abbrev pub mostWeight : ℕ
 mostWeight = 60000
 
--- a tonne at least
+-- a receipt's weight, a tonne at least
 abbrev pub isWeight : ℕ → Bool
-isWeight n = within 1000 mostWeight n
+isWeight n = within leastWeight mostWeight n
 
 -- fen that one call may name
 abbrev pub isAmount : ℕ → Bool

@@ -1,12 +1,10 @@
 -- Zeros, the header over them, and the entries behind it.
-use mathlib.Core.Bool.{Bool}
 use mathlib.Core.List.{List}
 use mathlib.Core.Path.{_≡_, sym, ap, _∙_}
 use Prim.Native.Nat.{ℕ}
 use denote.Ref.{now}
 use lib.ListN.{length, take, replicate}
 use lib.Seq.{sets, length-take-le}
-use Rattle.units.specs.declared.Fen.{Fen}
 use Rattle.units.specs.Ranges.{receiptCount}
 use Rattle.image.specs.Image.{decode}
 use Rattle.image.specs.Laws.Table.{length-of-map}

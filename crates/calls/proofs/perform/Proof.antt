@@ -1,5 +1,5 @@
 -- An opening, the lots that the call names, an ending; each leaves the image of a good zone.
-use mathlib.Core.Bool.{true, false}
+use mathlib.Core.Bool.{false}
 use mathlib.Core.List.{List}
 use mathlib.Core.Logic.{⊎-elim}
 use mathlib.Core.Path.{_≡_, sym, ap, _∙_, subst}
@@ -71,12 +71,12 @@ left : (c : tie.Joined1) → Left (c .if1 .image) (c .if1 .entries) (lots (c .be
 left c =
     let O = opened (c .before .before .before .before) in
     ⊎-elim
-    (λ w. let A = all-lots (c .before .before .before .before .before .before .before .args .c) (sym (c .before .goes-through-all .ensures) ∙ w .0 .taken) in
+    (λ w. let A = all-lots (c .before .before .before .before .before .before .before .args .c) (sym (c .before .sweeps .ensures) ∙ w .0 .taken) in
     record {
       image = w .5 ∙ w .2 .ensures .0 ∙ ap (λ (y : Zone). encode (sweep (ruleAt (c .before .before .before .before .before .before .before .args .c)) receiptCount 1 y .zone)) (O .zone) ∙ rw (A .0, A .1);
       entries = w .6 ∙ w .2 .ensures .1 ∙ ap (λ (y : Zone). entryArray (sweep (ruleAt (c .before .before .before .before .before .before .before .args .c)) receiptCount 1 y .entries)) (O .zone) ∙ rw (A .0, A .1);
     })
-    (λ w. let e = its-own (c .before .before .before .before .before .before .before) (sym (c .before .goes-through-all .ensures) ∙ w .0 .left) in
+    (λ w. let e = its-own (c .before .before .before .before .before .before .before) (sym (c .before .sweeps .ensures) ∙ w .0 .left) in
     record {
       image = w .5 ∙ w .2 .ensures .0 ∙ ap (λ (y : Zone). encode (afterLot y (c .before .before .before .before .before .before .before .args .at) .zone)) (O .zone) ∙ ap (λ (d : Done). encode (d .zone)) (sym e);
       entries = w .6 ∙ w .2 .ensures .1 ∙ ap (λ (y : Zone). entryArray (afterLot y (c .before .before .before .before .before .before .before .args .at) .entries)) (O .zone) ∙ ap (λ (d : Done). entryArray (d .entries)) (sym e);
@@ -90,16 +90,16 @@ performed c = c .end-call .ensures ∙ ap (λ (z : Zone). encode (ending (c .bef
 open-call-requires : tie.Need-open-call-requires
 open-call-requires c κs = (sym (encode-decode _ (c .before .before .pre .0) (λ k. c .before .slice-known .given k .fits)), valid-decode _ (c .before .before .pre .0), accepted (c .before .before) .number)
 
-goes-through-all-requires : tie.Need-goes-through-all-requires
-goes-through-all-requires c κs = search needs
+sweeps-requires : tie.Need-sweeps-requires
+sweeps-requires c κs = search needs
 
 sweep-lots-requires : tie.Need-sweep-lots-requires
-sweep-lots-requires c κs = let O = opened (c .before .before .before .before .before) in (O .encoded, O .valid, sym (c .before .before .goes-through-all .ensures) ∙ c .before .if1 .taken)
+sweep-lots-requires c κs = let O = opened (c .before .before .before .before .before) in (O .encoded, O .valid, sym (c .before .before .sweeps .ensures) ∙ c .before .if1 .taken)
 
 post-one-requires : tie.Need-post-one-requires
 post-one-requires c κs =
     let O = opened (c .before .before .before .before .before) in
-    let R = at-its-receipt (c .before .before .before .before .before .before .before .before) (sym (c .before .before .goes-through-all .ensures) ∙ c .before .if1 .left) in
+    let R = at-its-receipt (c .before .before .before .before .before .before .before .before) (sym (c .before .before .sweeps .ensures) ∙ c .before .if1 .left) in
     (O .encoded, rw (O .zone) (subst (CanPost _) (accepted (c .before .before .before .before .before .before .before .before) .rule) (R .posts)))
 
 end-call-requires : tie.Need-end-call-requires
@@ -117,7 +117,7 @@ perform-spec =
     tie.close
     (tie.spec
     open-call-requires
-    goes-through-all-requires
+    sweeps-requires
     sweep-lots-requires
     post-one-requires
     end-call-requires

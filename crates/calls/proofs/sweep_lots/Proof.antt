@@ -7,12 +7,10 @@ use native.Mathlib.Omega.{arith}
 use denote.Ref.{now}
 use lib.ListN.{length}
 use Rattle.units.specs.Ranges.{receiptCount}
-use Rattle.zone.specs.declared.Receipt.{Receipt}
 use Rattle.zone.specs.declared.Zone.{Zone}
 use Rattle.image.specs.Image.{decode, encode}
 use Rattle.image.specs.Laws.RoundTrip.{length-encode, same-long}
 use Rattle.rules.specs.declared.AtLot.{AtLot}
-use Rattle.rules.specs.declared.Entry.{Entry}
 use Rattle.rules.specs.Effects.{ruleAt}
 use Rattle.rules.specs.Events.{afterLot, posted, sweep}
 use Rattle.rules.specs.Laws.Chain.{swept}

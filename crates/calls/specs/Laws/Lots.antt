@@ -1,26 +1,24 @@
 -- The lots of an accepted call: all of them, or what the rule did at the receipt that the call names.
 -- Assumes nothing.
-use mathlib.Core.Bool.{true, false, false≢true, true≢false}
-use mathlib.Core.List.{List, [], _∷_, append-nil}
+use mathlib.Core.Bool.{true, false, true≢false}
+use mathlib.Core.List.{[], _∷_, append-nil}
 use mathlib.Core.Path.{_≡_, refl, sym, ap, _∙_}
 use Prim.Native.Nat.{ℕ}
 use Rattle.units.specs.Ranges.{isReceipt, receiptCount}
-use Rattle.zone.specs.declared.Receipt.{Receipt}
 use Rattle.zone.specs.declared.Zone.{Zone}
 use Rattle.zone.specs.Laws.Tests.{InRange, range-in}
 use Rattle.rules.specs.declared.AtLot.{AtLot}
 use Rattle.rules.specs.declared.AtLot.the-variants.{NoEvent, Event}
 use Rattle.rules.specs.declared.Call.{Call}
-use Rattle.rules.specs.declared.Entry.{Entry}
-use Rattle.rules.specs.Effects.{ruleAt, ruleOf, noRule, sweeps, opening, firstLot, lotCount}
-use Rattle.rules.specs.Events.{Done, afterLot, sweep}
+use Rattle.rules.specs.Effects.{ruleAt, ruleOf, noRule, sweeps, opening, firstLot, lotCount, sweepKinds}
+use Rattle.rules.specs.Events.{afterLot, sweep}
 use Rattle.rules.specs.Laws.Chain.{named}
 use Rattle.rules.specs.Laws.Good.{Good}
 use Rattle.rules.specs.Laws.Kinds.{withKind, ByKind, by-kind}
 use Rattle.rules.specs.Laws.Passed.{PassedAt, ranges, kind-in}
 use Rattle.rules.specs.Laws.Tables.{among-each}
 use Rattle.rules.specs.Tables.{among}
-use Rattle.events.specs.Posting.{Postable, CanPost}
+use Rattle.events.specs.Posting.{CanPost}
 use Rattle.calls.specs.Laws.Good.{visit-posts}
 
 -- ── All lots ───────────────────────────────────────────────────────────────────────────────────
@@ -29,7 +27,7 @@ pub all-lots : (c : Call) → sweeps (c .kind) ≡ true → (firstLot c ≡ 1) �
 unfolding firstLot lotCount
 all-lots c h =
     let none : among (c .kind) (1 ∷ 2 ∷ []) ≡ false =
-    among-each (λ k. among k (1 ∷ 2 ∷ []) ≡ false) (c .kind) (9 ∷ 11 ∷ 15 ∷ []) (refl, (refl, (refl, tt))) h in
+    among-each (λ k. among k (1 ∷ 2 ∷ []) ≡ false) (c .kind) sweepKinds (refl, (refl, (refl, tt))) h in
     (rw h, rw (none, h))
 
 -- ── The receipt named ──────────────────────────────────────────────────────────────────────────

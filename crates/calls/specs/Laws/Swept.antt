@@ -9,7 +9,6 @@ use native.Mathlib.Omega.{arith}
 use lib.ListN.{length, set, replicate, length-append}
 use lib.Seq.{set-append-seam}
 use Rattle.units.specs.Ranges.{receiptCount}
-use Rattle.zone.specs.declared.Receipt.{Receipt}
 use Rattle.zone.specs.declared.Zone.{Zone}
 use Rattle.rules.specs.declared.AtLot.{AtLot}
 use Rattle.rules.specs.declared.AtLot.the-variants.{NoEvent, Event}

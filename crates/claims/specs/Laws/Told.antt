@@ -10,7 +10,7 @@ use native.Mathlib.Omega.{arith}
 use borrow.Author.Tests.{eqb-true, eq-eqb, ne-eqb, not-true, not-false}
 use lib.Dec.{eqb, leb}
 use Rattle.units.specs.declared.Fen.{Fen}
-use Rattle.units.specs.Payments.{fen, firstPayment, partPayment, deposit}
+use Rattle.units.specs.Payments.{fen, firstPayment}
 use Rattle.units.specs.Laws.Bounds.{first-le, last-part}
 use Rattle.units.specs.Ranges.{accountCount}
 use Rattle.zone.specs.declared.Bid.{Bid}

@@ -15,7 +15,7 @@ use Rattle.zone.specs.Valid.{Sized, validZone, freshZone}
 use Rattle.rules.specs.declared.Call.{Call}
 use Rattle.rules.specs.declared.Entry.{Entry}
 use Rattle.rules.specs.Effects.{opening, ending, effect}
-use Rattle.rules.specs.Events.{posted, Done}
+use Rattle.rules.specs.Events.{posted}
 use Rattle.rules.specs.Laws.Chain.{Taken, taken}
 use Rattle.rules.specs.Laws.Fit.{funded, fit-lot}
 use Rattle.rules.specs.Laws.Good.{Good, good-of, valid-at}

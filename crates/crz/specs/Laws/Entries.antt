@@ -11,14 +11,14 @@ use Rattle.units.specs.Ranges.{receiptCount}
 use Rattle.zone.specs.declared.Zone.{Zone}
 use Rattle.rules.specs.declared.Call.{Call}
 use Rattle.rules.specs.declared.Entry.{Entry}
-use Rattle.rules.specs.Effects.{ruleAt, opening, firstLot, lotCount, effect}
+use Rattle.rules.specs.Effects.{ruleAt, opening, firstLot, lotCount, effect, sweepKinds}
 use Rattle.rules.specs.Tables.{among}
 use Rattle.calls.specs.Laws.Swept.{sweep-few}
 use Rattle.rules.specs.EntryArray.{entryArray}
 
 lots-few : (c : Call) → lotCount c ≤ receiptCount
 unfolding lotCount
-lots-few c = go (among (c .kind) (1 ∷ 2 ∷ [])) (among (c .kind) (9 ∷ 11 ∷ 15 ∷ []))
+lots-few c = go (among (c .kind) (1 ∷ 2 ∷ [])) (among (c .kind) sweepKinds)
   where
     go : (a b : Bool) → cond a 0 (cond b receiptCount 1) ≤ receiptCount
     go true b = omega arith

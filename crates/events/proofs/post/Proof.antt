@@ -2,15 +2,13 @@
 use mathlib.Core.Path.{_≡_, sym, ap, _∙_}
 use native.Mathlib.Omega.{arith}
 use denote.Ref.{now}
-use lib.ListN.{set}
-use Rattle.zone.specs.declared.Hold.{Hold}
 use Rattle.zone.specs.declared.Zone.{Zone}
 use Rattle.zone.specs.Held.{holdOf}
 use Rattle.zone.specs.Parts.{withAccounts, withReceipts}
 use Rattle.zone.specs.Record.{recordOf}
 use Rattle.image.specs.Image.{decode, encode}
 use Rattle.image.specs.Laws.RoundTrip.{same-long}
-use Rattle.rules.specs.Events.{credit, debit, release, freeze, moneyOf, accountsAfter, posted}
+use Rattle.rules.specs.Events.{credit, debit, release, freeze, accountsAfter, posted}
 use Rattle.rules.specs.Laws.Tables.{put-index}
 use Rattle.rules.specs.Ready.{Funds}
 use Rattle.rules.specs.View.{recordOfReceipt}

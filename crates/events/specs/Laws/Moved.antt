@@ -20,9 +20,9 @@ use Rattle.zone.specs.Valid.{Sized, noReceipt, recordValid}
 use Rattle.image.specs.Image.{decode, encode, Encoded, Fits}
 use Rattle.image.specs.Layout.{recordIn, receiptRun}
 use Rattle.image.specs.Laws.RoundTrip.{decode-fits, decode-sized, record-here}
-use Rattle.rules.specs.Events.{credit, debit, release, freeze}
-use Rattle.rules.specs.Laws.Funded.{all-released, all-debited, all-credited, all-frozen}
-use Rattle.rules.specs.Laws.Moves.{length-credit, length-debit, length-release, length-freeze}
+use Rattle.rules.specs.Events.{credit, debit, release}
+use Rattle.rules.specs.Laws.Funded.{all-released, all-debited, all-credited}
+use Rattle.rules.specs.Laws.Moves.{length-credit, length-debit, length-release}
 use Rattle.rules.specs.Laws.Tables.{length-put, nth-index, all-nth, all-put}
 use Rattle.rules.specs.Ready.{Funds}
 use Rattle.rules.specs.Tables.{put}

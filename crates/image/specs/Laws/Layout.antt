@@ -12,7 +12,7 @@ use Rattle.zone.specs.declared.Receipt.{Receipt}
 use Rattle.zone.specs.declared.Record.{Record}
 use Rattle.zone.specs.Record.{recordOf}
 use Rattle.units.specs.Ranges.{accountCount, receiptCount, contractCount}
-use Rattle.image.specs.Layout.{headerLength, accountLength, askLength, receiptLength, headerBytes, accountBytes, askBytes, recordBytes, receiptBytes, accountsIn, asksIn, recordsIn, receiptsIn}
+use Rattle.image.specs.Layout.{headerLength, accountLength, askLength, receiptLength, headerBytes, accountBytes, askBytes, recordBytes, receiptBytes, accountsIn, asksIn, receiptsIn}
 use Rattle.image.specs.Laws.Table.{length-table}
 
 pub header-wide : (day : ℕ) (afternoon : Bool) (total : ℕ) → length (headerBytes day afternoon total) ≡ headerLength
@@ -42,10 +42,6 @@ length-accounts s = length-table accountCount _
 pub length-asks : (s : List ℕ) → length (asksIn s) ≡ contractCount
 unfolding asksIn
 length-asks s = length-table contractCount _
-
-pub length-records : (s : List ℕ) → length (recordsIn s) ≡ receiptCount
-unfolding recordsIn
-length-records s = length-table receiptCount _
 
 pub length-receipts : (s : List ℕ) → length (receiptsIn s) ≡ receiptCount
 unfolding receiptsIn

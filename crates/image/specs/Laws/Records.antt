@@ -27,7 +27,7 @@ use Rattle.zone.specs.Laws.Facts.{bounds}
 use Rattle.zone.specs.Laws.Held.{invoice-bounds}
 use Rattle.zone.specs.Laws.Tests.{both, price-at-most}
 use Rattle.image.specs.Table.{table}
-use Rattle.image.specs.Layout.{headerLength, accountLength, askLength, receiptLength, accountStart, contractStart, receiptStart, accountCountPlace, receiptCountPlace, contractCountPlace, dayPlace, accountStartPlace, contractStartPlace, receiptStartPlace, phasePlace, totalPlace, ownerPlace, statePlace, sellerPlace, buyerPlace, contractPlace, daysPlace, duePlace, weightPlace, basisPlace, pricePlace, pendingPlace, confirmedPlace, paidPlace, headerOk, phaseByte, headerBytes, dayIn, afternoonIn, totalIn, accountIn, accountBytes, askIn, askBytes, recordIn, recordBytes}
+use Rattle.image.specs.Layout.{headerLength, accountLength, askLength, receiptLength, accountStart, contractStart, receiptStart, accountCountPlace, receiptCountPlace, contractCountPlace, dayPlace, accountStartPlace, contractStartPlace, receiptStartPlace, phasePlace, totalPlace, ownerPlace, statePlace, sellerPlace, buyerPlace, contractPlace, daysPlace, duePlace, weightPlace, basisPlace, pricePlace, pendingPlace, confirmedPlace, paidPlace, headerOk, phaseByte, headerBytes, dayIn, afternoonIn, totalIn, accountIn, accountBytes, askIn, askBytes, recordIn, recordBytes, freePlace, frozenPlace}
 use Rattle.image.specs.Laws.Bytes.{bytes-cons, bytes-append}
 use Rattle.image.specs.Laws.Fields.{record-eq}
 
@@ -125,17 +125,17 @@ phase-byte false = lit< tt
 pub header-bytes : (day : ℕ) (afternoon : Bool) (total : ℕ) → Bytes (headerBytes day afternoon total)
 unfolding headerBytes
 header-bytes day afternoon total =
-    let s2 = leBytes 2 accountCount ++ leBytes 2 receiptCount in
-    let s4 = s2 ++ leBytes 2 contractCount in
-    let s6 = s4 ++ leBytes 2 day in
-    let s8 = s6 ++ leBytes 4 accountStart in
-    let s12 = s8 ++ leBytes 4 contractStart in
-    let s16 = s12 ++ leBytes 4 receiptStart in
+    let twoCounts = leBytes 2 accountCount ++ leBytes 2 receiptCount in
+    let counts = twoCounts ++ leBytes 2 contractCount in
+    let toDay = counts ++ leBytes 2 day in
+    let toAccounts = toDay ++ leBytes 4 accountStart in
+    let toContracts = toAccounts ++ leBytes 4 contractStart in
+    let toReceipts = toContracts ++ leBytes 4 receiptStart in
     let phase : List ℕ = phaseByte afternoon ∷ 0 ∷ 0 ∷ 0 ∷ [] in
-    let numbers : Bytes s16 =
-    bytes-number s12 4 receiptStart
-    (bytes-number s8 4 contractStart (bytes-number s6 4 accountStart (bytes-number s4 2 day (bytes-number s2 2 contractCount (bytes-number (leBytes 2 accountCount) 2 receiptCount (bytes-leBytes 2 accountCount)))))) in
-    bytes-number (s16 ++ phase) 8 total (bytes-append s16 phase numbers (bytes-cons (phaseByte afternoon) (0 ∷ 0 ∷ 0 ∷ []) (phase-byte afternoon) (bytes-zeros 3)))
+    let numbers : Bytes toReceipts =
+    bytes-number toContracts 4 receiptStart
+    (bytes-number toAccounts 4 contractStart (bytes-number toDay 4 accountStart (bytes-number counts 2 day (bytes-number twoCounts 2 contractCount (bytes-number (leBytes 2 accountCount) 2 receiptCount (bytes-leBytes 2 accountCount)))))) in
+    bytes-number (toReceipts ++ phase) 8 total (bytes-append toReceipts phase numbers (bytes-cons (phaseByte afternoon) (0 ∷ 0 ∷ 0 ∷ []) (phase-byte afternoon) (bytes-zeros 3)))
 
 pub account-bytes : (a : Account) → Bytes (accountBytes a)
 unfolding accountBytes
@@ -170,7 +170,7 @@ pub account-written : (b : List ℕ) → Bytes b → length b ≡ accountLength 
 unfolding accountBytes accountIn
 account-written b B n =
     let h : length b ≤ accountLength = omega arith in
-    rw (leBytes-leAt 8 b 0 B (omega arith), leBytes-leAt 8 b 8 B (omega arith), run b 8 8) (take-all accountLength b h)
+    rw (leBytes-leAt 8 b freePlace B (omega arith), leBytes-leAt 8 b frozenPlace B (omega arith), run b frozenPlace 8) (take-all accountLength b h)
 
 pub ask-written : (b : List ℕ) → Bytes b → length b ≡ askLength → askBytes (askIn b) ≡ b
 unfolding askBytes askIn

@@ -210,10 +210,6 @@ module _ (s : List ℕ) (k : ℕ) where
   unfolding decode asksIn
   ask-in-place h = sym (getD-table contractCount (λ (i : ℕ). askIn (askRun s i)) k noAsk h)
 
-  pub receipt-in-place : k < receiptCount → receiptOf (recordIn (receiptRun s k)) ≡ getD (decode s .receipts) k noReceipt
-  unfolding decode receiptsIn
-  receipt-in-place h = sym (getD-table receiptCount (λ (i : ℕ). receiptOf (recordIn (receiptRun s i))) k noReceipt h)
-
 -- the bytes of a zone are as many as an image has
 pub same-long : (s : List ℕ) → Encoded s → length s ≡ imageLength
 same-long s e = ap length e ∙ length-encode (decode s) (decode-sized s)

@@ -1,11 +1,10 @@
 -- The rule may be asked, and what it reads is what the definition reads.
-use mathlib.Core.Bool.{Bool, false}
-use mathlib.Core.Path.{_≡_, sym, ap, _∙_}
-use Prim.Native.Nat.{ℕ, _-_}
+use mathlib.Core.Bool.{false}
+use mathlib.Core.Path.{_≡_, sym, _∙_}
+use Prim.Native.Nat.{_-_}
 use native.Mathlib.Omega.{arith}
 use borrow.Author.Tests.{not-true}
 use denote.Ref.{now}
-use Rattle.zone.specs.declared.Record.{Record}
 use Rattle.image.specs.Image.{decode}
 use Rattle.image.specs.Layout.{recordIn, receiptRun}
 use Rattle.image.specs.Laws.RoundTrip.{same-long, valid-fits}

@@ -1,18 +1,17 @@
 -- At a lot that the call does not concern its rule has no event.
 -- Assumes nothing.
-use mathlib.Core.Bool.{Bool, true, false, cond, _&&_, true≢false}
+use mathlib.Core.Bool.{Bool, true, false, cond, _&&_}
 use mathlib.Core.List.{[], _∷_}
 use mathlib.Core.Path.{_≡_, refl}
 use Prim.Native.Nat.{ℕ}
-use lib.Dec.{eqb, leb}
+use lib.Dec.{leb}
 use Rattle.zone.specs.declared.Record.{Record}
 use Rattle.rules.specs.declared.AtLot.the-variants.{NoEvent}
 use Rattle.rules.specs.declared.Call.{Call}
 use Rattle.rules.specs.declared.View.{View}
-use Rattle.rules.specs.Effects.{ruleOf, sweeps, quoteLot, closeLot, dayCloseLot}
+use Rattle.rules.specs.Effects.{ruleOf, sweeps, quoteLot, closeLot, dayCloseLot, sweepKinds}
 use Rattle.rules.specs.Laws.Kinds.{withKind}
 use Rattle.rules.specs.Laws.Tables.{among-each, among-none}
-use Rattle.rules.specs.Tables.{among}
 use Rattle.lots.specs.Concerned.{concerned}
 
 module _ (v : View) (c : Call) (n : ℕ) (f : Record) where
@@ -39,4 +38,4 @@ module _ (v : View) (c : Call) (n : ℕ) (f : Record) where
 
   pub passed-over : sweeps (c .kind) ≡ true → concerned c (f .state) (f .contract) ≡ false → ruleOf (c .kind) v c n f ≡ NoEvent
   unfolding Over
-  passed-over s = among-each Over (c .kind) (9 ∷ 11 ∷ 15 ∷ []) (quote, (morning, (day, tt))) s
+  passed-over s = among-each Over (c .kind) sweepKinds (quote, (morning, (day, tt))) s

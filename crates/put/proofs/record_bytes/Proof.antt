@@ -5,8 +5,8 @@ use borrow.Author.Needs.{needs}
 use Rattle.put.proofs.record_bytes.Statement.{statement}
 use Rattle.put.proofs.record_bytes.Tie as tie
 
-record-start-requires : tie.Need-record-start-requires
-record-start-requires c κs = search needs
+record-first-fields-requires : tie.Need-record-first-fields-requires
+record-first-fields-requires c κs = search needs
 
 add-put-u32 : tie.Need-add-put-u32
 add-put-u32 c = search needs
@@ -47,13 +47,13 @@ same-length c = search needs
 returns : tie.Need-returns
 returns c =
     whole (c .before .before .before .before .before .before .before .before .before .before .before .before .before .before .before .before .before .before .before .before .before .before .before .before .args .at) (c .before .before .before .before .before .before .before .before .before .before .before .before .before .before .before .before .before .before .before .before .before .before .before .before .args .r) (now (c .before .before .before .before .before .before .before .before .before .before .before .before .before .before .before .before .before .before .before .before .before .before .before .before .args .image)) (c .before .before .before .before .before .before .before .before .before .before .before .before .before .low-half .result) (c .before .before .before .before .before .before .before .before .low-half2 .result) (c .before .before .before .low-half3 .result) (c .before .before .before .before .before .before .before .before .before .before .before .before .before .low-half .ensures) (c .before .before .before .before .before .before .before .before .low-half2 .ensures) (c .before .before .before .low-half3 .ensures)
-    (c .before .before .before .before .before .before .before .before .before .before .before .before .before .before .before .before .before .before .before .before .before .record-start .ensures) (c .before .before .before .before .before .before .before .before .before .before .before .before .before .before .before .before .before .put-u32 .ensures) (c .before .before .before .before .before .before .before .before .before .before .before .before .put-u322 .ensures) (c .before .before .before .before .before .before .before .put-u323 .ensures) (c .before .before .put-u324 .ensures)
+    (c .before .before .before .before .before .before .before .before .before .before .before .before .before .before .before .before .before .before .before .before .before .record-first-fields .ensures) (c .before .before .before .before .before .before .before .before .before .before .before .before .before .before .before .before .before .put-u32 .ensures) (c .before .before .before .before .before .before .before .before .before .before .before .before .put-u322 .ensures) (c .before .before .before .before .before .before .before .put-u323 .ensures) (c .before .before .put-u324 .ensures)
 
 pub record-bytes-spec : {M : Type 1} → statement M
 record-bytes-spec =
     tie.close
     (tie.spec
-    record-start-requires
+    record-first-fields-requires
     add-put-u32
     put-u32-requires
     add-put-u32-2

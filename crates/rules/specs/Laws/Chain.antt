@@ -47,16 +47,6 @@ module _ {P : Entry → Receipt → Type 0} where
   pub on-event : {s : AtLot} {e : Entry} {r : Receipt} → On P s → s ≡ Event e r → P e r
   on-event o q = subst (On P) q o .is
 
--- two claims at once
-pub both-on : {P Q : Entry → Receipt → Type 0} (s : AtLot) → On P s → On Q s → On (λ e r. P e r × Q e r) s
-both-on NoEvent p q = record { is = tt }
-both-on (Event e r) p q = record { is = (p .is, q .is) }
-
--- a claim that follows from another
-pub map-on : {P Q : Entry → Receipt → Type 0} (s : AtLot) → ((e : Entry) (r : Receipt) → P e r → Q e r) → On P s → On Q s
-map-on NoEvent f p = record { is = tt }
-map-on (Event e r) f p = record { is = f e r (p .is) }
-
 -- ── Events at ascending lots ───────────────────────────────────────────────────────────────────
 
 -- Why lot n is visited: the call goes through all lots, or it names this one and no number applies.

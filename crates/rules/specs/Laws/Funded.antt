@@ -11,7 +11,7 @@ use Rattle.zone.specs.declared.Account.{Account}
 use Rattle.zone.specs.declared.Hold.{Hold}
 use Rattle.zone.specs.declared.Receipt.{Receipt}
 use Rattle.zone.specs.declared.Record.{Record}
-use Rattle.zone.specs.Held.{holdOf, fenFrom, heldFrom, heldSum, allMoney}
+use Rattle.zone.specs.Held.{fenFrom, heldFrom, heldSum, allMoney}
 use Rattle.zone.specs.Laws.Held.{heldSum-set, heldSum-at}
 use Rattle.zone.specs.Record.{recordOf}
 use Rattle.zone.specs.Valid.{noReceipt}

@@ -15,7 +15,7 @@ use Rattle.rules.specs.declared.Call.{Call}
 use Rattle.rules.specs.declared.Entry.{Entry}
 use Rattle.rules.specs.declared.AtLot.{AtLot}
 use Rattle.rules.specs.declared.AtLot.the-variants.{NoEvent, Event}
-use Rattle.rules.specs.Effects.{ruleOf, ruleAt, sweeps, noRule}
+use Rattle.rules.specs.Effects.{ruleOf, ruleAt, sweeps, noRule, sweepKinds}
 use Rattle.rules.specs.Events.{posted, afterLot}
 use Rattle.rules.specs.Laws.Chain.{none, on-event, Visit, swept, named, Chain, stop, link}
 use Rattle.rules.specs.Laws.Fit.{Fit, funded, fit-lot, good-stays}
@@ -35,7 +35,7 @@ tested e (named q P) = P
 
 -- only a kind visits lots
 pub visit-kind : {c : Call} {z : Zone} {n : ℕ} → Visit c z n → within 1 15 (c .kind) ≡ true
-visit-kind {c} (swept h) = among-each (λ k. within 1 15 k ≡ true) (c .kind) (9 ∷ 11 ∷ 15 ∷ []) (refl, (refl, (refl, tt))) h
+visit-kind {c} (swept h) = among-each (λ k. within 1 15 k ≡ true) (c .kind) sweepKinds (refl, (refl, (refl, tt))) h
 visit-kind (named q P) = kind-in P
 
 module _ (z : Zone) (G : Good z) (c : Call) (n : ℕ) where

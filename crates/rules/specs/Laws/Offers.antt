@@ -8,7 +8,7 @@ use native.Mathlib.Omega.{arith}
 use borrow.Author.Tests.{ltb-false, leb-true, not-false, not-true, eqb-true, eqb-false}
 use lib.Dec.{eqb}
 use Rattle.units.specs.Payments.{payable, perReceipt}
-use Rattle.units.specs.Ranges.{accountCount, mostPrice, isPrice, lastDay, lastDue}
+use Rattle.units.specs.Ranges.{accountCount, mostPrice, isPrice, lastDay, lastDue, mostDays}
 use Rattle.zone.specs.declared.Bid.{Bid}
 use Rattle.zone.specs.declared.Lot.the-variants.{Idle}
 use Rattle.zone.specs.declared.Record.{Record}
@@ -46,7 +46,7 @@ pub offered : {s : ℕ} → among s (1 ∷ 2 ∷ []) ≡ true → InRange 1 2 s
 offered {s} h = among-each (InRange 1 2) s (1 ∷ 2 ∷ []) (omega arith, (omega arith, tt)) h
 
 -- the due day of a trade struck on a valid day
-pub due-in : (v : View) (days : ℕ) → InRange 1 lastDay (v .day) → days ≤ 3 → InRange 1 lastDue (dueDay v days)
+pub due-in : (v : View) (days : ℕ) → InRange 1 lastDay (v .day) → days ≤ mostDays → InRange 1 lastDue (dueDay v days)
 due-in v days d h = go (v .afternoon && eqb days 0)
   where
     go : (b : Bool) → InRange 1 lastDue (cond b (v .day + 1) (v .day + days))

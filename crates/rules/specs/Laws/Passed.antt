@@ -96,11 +96,6 @@ module _ {v : View} {c : Call} {f : Record} (P : Passed v c f) where
   unfolding illFormed
   kind-in = both (within 1 15 (c .kind)) (unusedZero (brackets (c .kind)) 0 (values c)) (not-false _ (P .form)) .0
 
-  -- fields that the kind does not use are zero
-  pub unused : unusedZero (brackets (c .kind)) 0 (values c) ≡ true
-  unfolding illFormed
-  unused = both (within 1 15 (c .kind)) (unusedZero (brackets (c .kind)) 0 (values c)) (not-false _ (P .form)) .1
-
   pub in-state : inStateNamed c f ≡ true
   unfolding wrongState
   in-state = not-false _ (P .state)

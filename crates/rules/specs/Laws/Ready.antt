@@ -12,7 +12,6 @@ use Rattle.zone.specs.declared.Record.{Record}
 use Rattle.zone.specs.declared.Zone.{Zone}
 use Rattle.zone.specs.Held.{full}
 use Rattle.zone.specs.Laws.Tests.{both, InRange, range-in, price-at-most}
-use Rattle.zone.specs.Record.{recordOf}
 use Rattle.zone.specs.Valid.{recordValid}
 use Rattle.rules.specs.declared.Call.{Call}
 use Rattle.rules.specs.declared.View.{View}
@@ -60,10 +59,6 @@ module _ (v : View) (c : Call) (f : Record) (ok : recordValid f ≡ true) (P : P
         invoice = invoice-small;
         pending = invoice-pending;
       }
-
--- and at a lot of a good zone
-pub ready-call : (z : Zone) → Good z → (c : Call) (n : ℕ) → PassedAt c z n → ReadyCall c (recordOfReceipt z n)
-ready-call z G c n P = ready-with _ c (recordOfReceipt z n) (valid-at z G n) P
 
 -- ── The openings ───────────────────────────────────────────────────────────────────────────────
 

@@ -10,7 +10,6 @@ use Rattle.zone.specs.declared.Record.{Record}
 use Rattle.zone.specs.Held.{full}
 use Rattle.zone.specs.Laws.Facts.{bounds, known, owner-some}
 use Rattle.zone.specs.Laws.Held.{full-le, rest-le}
-use Rattle.zone.specs.Record.{invoicesOf}
 use Rattle.zone.specs.Valid.{recordValid}
 use Rattle.rules.specs.Effects.{confirm}
 use borrow.Author.Needs.{needs}

@@ -14,8 +14,8 @@ use Rattle.units.specs.declared.Basis.{Basis}
 use Rattle.units.specs.declared.Fen.{Fen}
 use Rattle.units.specs.declared.Kilograms.{Kilograms}
 use Rattle.units.specs.declared.YuanPerTonne.{YuanPerTonne}
-use Rattle.units.specs.Ranges.{mostPrice, mostBasis, mostWeight}
-use Rattle.units.specs.Payments.{fen, unitPrice, payable, atLeast0, fullPayment, firstPayment, restPayment, partPayment, penaltyPassed, perReceipt}
+use Rattle.units.specs.Ranges.{mostPrice, mostBasis, mostWeight, leastWeight}
+use Rattle.units.specs.Payments.{unitPrice, payable, atLeast0, fullPayment, firstPayment, restPayment, partPayment, penaltyPassed, perReceipt}
 
 -- ── price + basis ──────────────────────────────────────────────────────────────────────────────
 
@@ -56,7 +56,7 @@ full-at-most price basis weight hp hb hw =
 
 -- where price + basis can be paid and the weight is in range, full payment is at least 100 fen (example 3)
 pub full-at-least : (price : YuanPerTonne) (basis : Basis) (weight : Kilograms) →
-    payable price basis ≡ true → 1000 ≤ weight .0 → 100 ≤ fullPayment price basis weight .0
+    payable price basis ≡ true → leastWeight ≤ weight .0 → 100 ≤ fullPayment price basis weight .0
 unfolding fullPayment
 full-at-least price basis weight h hw = omega (arith, mul-le-mul (unit-at-least price basis h) hw)
 

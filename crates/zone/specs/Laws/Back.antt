@@ -1,7 +1,7 @@
 -- A receipt and its record hold the same: each is had back from the other.
 -- Assumes nothing.
 use mathlib.Core.Bool.{true, false}
-use mathlib.Core.Path.{_≡_, refl, sym, ap, _∙_, subst}
+use mathlib.Core.Path.{_≡_, refl, sym, _∙_, subst}
 use Prim.Native.Nat.{ℕ, zero, suc}
 use native.Mathlib.Decide.{ℕ-discrete}
 use native.Mathlib.Omega.{arith}
@@ -15,7 +15,7 @@ use Rattle.zone.specs.declared.Lot.the-variants.{Idle, Listed, BidStands
 use Rattle.zone.specs.declared.Receipt.{Receipt}
 use Rattle.zone.specs.declared.Record.{Record}
 use Rattle.zone.specs.Record.{noListing, noBid, flatRecord, recordAs, recordOf, lotAt, receiptOf}
-use Rattle.zone.specs.Valid.{recordValid, noReceipt}
+use Rattle.zone.specs.Valid.{recordValid}
 use Rattle.zone.specs.Laws.Facts.{ListingAt, BidAt, Known, known, unregistered}
 
 -- a receipt is had back from its record
@@ -73,10 +73,3 @@ record-back r h = go (ℕ-discrete (r .owner) 0)
     go : Dec (r .owner ≡ 0) → recordOf (receiptOf r) ≡ r
     go (yes e) = subst (λ (x : Record). recordOf (receiptOf x) ≡ x) (sym (unregistered r h e)) refl
     go (no n) = back (r .owner) (r .weight) _ _ (r .due) _ (r .state) (known r h n)
-
--- a valid receipt with no owner is no receipt
-pub receipt-none : (r : Receipt) → recordValid (recordOf r) ≡ true → r .owner ≡ 0 → r ≡ noReceipt
-unfolding receiptOf
-receipt-none r h e =
-    let o : recordOf r .owner ≡ 0 = ap (λ (x : Receipt). x .owner) (receipt-back r) ∙ e in
-    sym (receipt-back r) ∙ ap receiptOf (unregistered (recordOf r) h o) ∙ receipt-back noReceipt

@@ -13,7 +13,7 @@ use Rattle.units.specs.declared.Fen.{Fen}
 use Rattle.units.specs.declared.Kilograms.{Kilograms}
 use Rattle.units.specs.Payments.{fen, payable}
 use Rattle.units.specs.Laws.Bounds.{paidBound}
-use Rattle.units.specs.Ranges.{within, isPrice, isBasis, accountCount, contractCount, mostPrice, mostWeight, lastDue}
+use Rattle.units.specs.Ranges.{within, isPrice, isBasis, accountCount, contractCount, mostPrice, mostWeight, lastDue, mostDays, leastWeight}
 use Rattle.zone.specs.declared.Bid.{Bid}
 use Rattle.zone.specs.declared.Invoices.{Invoices}
 use Rattle.zone.specs.declared.Listing.{Listing}
@@ -29,7 +29,7 @@ use Rattle.zone.specs.Laws.Tests.{both, join, InRange, range-in, in-rang
 pub record ListingAt (n : ℕ) (l : Listing) : Type 0 where
   pub seller : Filled (within 1 7 n) (InRange 1 accountCount (l .seller)) (l .seller ≡ 0)
   pub contract : Filled (within 1 6 n) (InRange 1 contractCount (l .contract)) (l .contract ≡ 0)
-  pub days : Filled (within 1 6 n) (l .days ≤ 3) (l .days ≡ 0)
+  pub days : Filled (within 1 6 n) (l .days ≤ mostDays) (l .days ≡ 0)
   pub basis : Filled (within 1 6 n) (isBasis (l .basis .0) ≡ true) (l .basis .0 ≡ pos 0)
 
 -- the fields of a bid in state n, on a listing
@@ -53,7 +53,7 @@ pub record InvoicesIn (full : Fen) (i : Invoices) : Type 0 where
 -- the owner and the weight of a registered receipt
 pub record Owned (o : ℕ) (w : Kilograms) : Type 0 where
   pub owner : InRange 1 accountCount o
-  pub weight : InRange 1000 mostWeight (w .0)
+  pub weight : InRange leastWeight mostWeight (w .0)
 
 -- what is known of a valid record with an owner, besides its invoices
 pub record FieldsIn (r : Record) : Type 0 where
@@ -260,7 +260,7 @@ pub record Bounds (r : Record) : Type 0 where
   pub seller : r .seller ≤ accountCount
   pub buyer : r .buyer ≤ accountCount
   pub contract : r .contract ≤ contractCount
-  pub days : r .days ≤ 3
+  pub days : r .days ≤ mostDays
   pub due : r .due ≤ lastDue
   pub weight : r .weight .0 ≤ mostWeight
   pub basis : isBasis (r .basis .0) ≡ true

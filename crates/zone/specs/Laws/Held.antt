@@ -12,23 +12,17 @@ use borrow.Author.Tests.{eq-eqb, ne-eqb}
 use lib.Dec.{eqb}
 use lib.ListN.{length, getD, set}
 use Rattle.units.specs.declared.Fen.{Fen}
-use Rattle.units.specs.declared.Kilograms.{Kilograms}
-use Rattle.units.specs.Payments.{fen, fullPayment, restPayment, deposit}
+use Rattle.units.specs.Payments.{fen, restPayment, deposit}
 use Rattle.units.specs.Laws.Bounds.{full-at-most, full-at-least, first-rest, bound-le-rest, mostFull}
 use Rattle.units.specs.Ranges.{within}
 use Rattle.zone.specs.declared.Account.{Account}
-use Rattle.zone.specs.declared.Bid.{Bid}
 use Rattle.zone.specs.declared.Invoices.{Invoices}
-use Rattle.zone.specs.declared.Listing.{Listing}
-use Rattle.zone.specs.declared.Lot.{Lot}
-use Rattle.zone.specs.declared.Lot.the-variants.{Idle, Listed, BidStands, Struck, Lodged, Settled, FirstPaid, PenaltyDue}
 use Rattle.zone.specs.declared.Record.{Record}
 use Rattle.zone.specs.Held.{full, rest, held, fenFrom, heldFrom, heldSum, allMoney}
-use Rattle.zone.specs.Record.{recordAs, recordOf}
-use Rattle.zone.specs.Valid.{all, emptyAccount, recordValid}
-use Rattle.zone.specs.Laws.Tests.{both, price-at-most, basis-at-most, InRange, in-range, filled-either}
-use Rattle.zone.specs.Laws.Lots.{ListingIn, BidIn}
-use Rattle.zone.specs.Laws.Facts.{Owned, InvoicesIn, known, owner-some, unregistered, Bounds, bounds}
+use Rattle.zone.specs.Record.{recordOf}
+use Rattle.zone.specs.Valid.{emptyAccount, recordValid}
+use Rattle.zone.specs.Laws.Tests.{basis-at-most, InRange, in-range, filled-either}
+use Rattle.zone.specs.Laws.Facts.{InvoicesIn, known, owner-some, unregistered, Bounds, bounds}
 
 -- ── One lot ────────────────────────────────────────────────────────────────────────────────────
 
@@ -43,14 +37,6 @@ unfolding full
 full-ge r h s =
     let F = known r h (owner-some r h (omega arith)) .fields in
     full-at-least (r .price) (r .basis) (r .weight) (F .bid .pays (in-range s)) (F .owned .weight .low)
-
--- full payment of a valid lot with a bid
-pub full-in : (o : ℕ) (w : Kilograms) (l : Listing) (b : Bid) → Owned o w → ListingIn l → BidIn l b → InRange 100 mostFull (fullPayment (b .price) (l .basis) w .0)
-full-in o w l b O L B =
-    record {
-      low = full-at-least (b .price) (l .basis) w (B .pays) (O .weight .low);
-      high = full-at-most (b .price) (l .basis) w (price-at-most (b .price .0) (B .price)) (basis-at-most (l .basis .0) (L .basis)) (O .weight .high);
-    }
 
 -- the rest is part of full
 pub rest-le : (f : Fen) → restPayment f .0 ≤ f .0
@@ -99,29 +85,6 @@ held-le r h = go (within 2 4 (r .state)) (eqb (r .state) 5) (eqb (r .state) 6) (
     go false false true f = omega (arith, rest-le (full r))
     go false false false f = omega arith
 
--- what a lot holds, by its case
-abbrev pub lotHolds : Kilograms → Lot → Fen
-lotHolds w Idle = fen 0
-lotHolds w (Listed l) = fen 0
-lotHolds w (BidStands l b) = deposit
-lotHolds w (Struck t) = deposit
-lotHolds w (Lodged t) = deposit
-lotHolds w (Settled t) = fullPayment (t .bid .price) (t .listing .basis) w
-lotHolds w (FirstPaid t i) = fen (restPayment (fullPayment (t .bid .price) (t .listing .basis) w) .0 - i .paid .0)
-lotHolds w (PenaltyDue s b d) = fen 0
-
--- what the record of a lot holds
-pub held-lot : (o : ℕ) (w : Kilograms) (lot : Lot) → held (recordAs o w lot) ≡ lotHolds w lot
-unfolding held full
-held-lot o w Idle = refl
-held-lot o w (Listed l) = refl
-held-lot o w (BidStands l b) = refl
-held-lot o w (Struck t) = refl
-held-lot o w (Lodged t) = refl
-held-lot o w (Settled t) = refl
-held-lot o w (FirstPaid t i) = refl
-held-lot o w (PenaltyDue s b d) = refl
-
 -- ── From one account ───────────────────────────────────────────────────────────────────────────
 
 -- the whole for the account named and nothing for any other
@@ -160,14 +123,6 @@ module _ {A : Type 0} (rec : A → Record) (x : ℕ) where
   heldSum-at [] k d h = absurd (not-suc-le-zero h)
   heldSum-at (a ∷ l) zero d h = omega arith
   heldSum-at (a ∷ l) (suc k) d h = omega (arith, heldSum-at l k d (le-of-suc-le-suc h))
-
-  -- what valid lots hold from one account
-  pub heldSum-le : (l : List A) → all (λ r. recordValid (rec r)) l ≡ true → heldSum rec x l ≤ mostFull * length l
-  unfolding heldSum all
-  heldSum-le [] h = omega arith
-  heldSum-le (a ∷ l) h =
-      let t = both _ _ h in
-      omega (arith, heldFrom-le x (rec a) (t .0), heldSum-le l (t .1))
 
 -- ── The accounts ───────────────────────────────────────────────────────────────────────────────
 

@@ -2,14 +2,14 @@
 -- Assumes nothing.
 use mathlib.Core.Bool.{true, false, _||_, true≢false, false≢true}
 use mathlib.Core.Logic.{_≢_}
-use mathlib.Core.Path.{_≡_, refl, sym, ap, ap₂, _∙_}
+use mathlib.Core.Path.{_≡_, refl, sym, ap₂, _∙_}
 use Prim.Native.Nat.{ℕ, _≤_}
 use native.Mathlib.Decide.{ℕ-discrete}
 use native.Mathlib.Omega.{arith}
 use lib.Dec.{eqb}
 use Rattle.units.specs.declared.Kilograms.{Kilograms}
 use Rattle.units.specs.Payments.{fullPayment, payable}
-use Rattle.units.specs.Ranges.{within, isPrice, isBasis, accountCount, contractCount, lastDue}
+use Rattle.units.specs.Ranges.{within, isPrice, isBasis, accountCount, contractCount, lastDue, mostDays}
 use Rattle.zone.specs.declared.Bid.{Bid}
 use Rattle.zone.specs.declared.Invoices.{Invoices}
 use Rattle.zone.specs.declared.Listing.{Listing}
@@ -22,7 +22,7 @@ use Rattle.zone.specs.Held.{full}
 use Rattle.zone.specs.Record.{noListing, noBid, noInvoices, flatRecord, recordAs, recordOf, invoicesOf}
 use Rattle.zone.specs.Valid.{recordValid}
 use Rattle.zone.specs.Laws.Tests.{InRange, inside, in-range, fills, leaves}
-use Rattle.zone.specs.Laws.Facts.{ListingAt, BidAt, OwnerAt, InvoicesIn, Owned, FieldsIn, Known, known, known-valid, owner-some, unregistered, none-valid}
+use Rattle.zone.specs.Laws.Facts.{ListingAt, BidAt, OwnerAt, InvoicesIn, Owned, FieldsIn, known-valid, unregistered, none-valid}
 
 -- ── The groups of fields, each in its range ────────────────────────────────────────────────────
 
@@ -30,7 +30,7 @@ use Rattle.zone.specs.Laws.Facts.{ListingAt, BidAt, OwnerAt, InvoicesIn,
 pub record ListingIn (l : Listing) : Type 0 where
   pub seller : InRange 1 accountCount (l .seller)
   pub contract : InRange 1 contractCount (l .contract)
-  pub days : l .days ≤ 3
+  pub days : l .days ≤ mostDays
   pub basis : isBasis (l .basis .0) ≡ true
 
 -- a bid on a listing
@@ -103,15 +103,10 @@ LotIn o w (Settled t) = BuyersIn o w t
 LotIn o w (FirstPaid t i) = FirstPaidIn o w t i
 LotIn o w (PenaltyDue s b d) = PenaltyDueIn o w s b d
 
--- ── From a valid record, and back ──────────────────────────────────────────────────────────────
+-- ── To a valid record ──────────────────────────────────────────────────────────────────────────
 
 -- a listing in the states 1 to 6
 module _ (n : ℕ) (l : Listing) (s : InRange 1 6 n) where
-  listing-here : ListingAt n l → ListingIn l
-  listing-here L =
-      let e : within 1 6 n ≡ true = in-range s in
-      record { seller = L .seller .yes (inside 1 7 n (omega arith) (omega arith)); contract = L .contract .yes e; days = L .days .yes e; basis = L .basis .yes e }
-
   listing-there : ListingIn l → ListingAt n l
   listing-there L =
       let e : within 1 6 n ≡ true = in-range s in
@@ -119,12 +114,6 @@ module _ (n : ℕ) (l : Listing) (s : InRange 1 6 n) where
 
 -- a bid in the states 2 to 6
 module _ (n : ℕ) (l : Listing) (b : Bid) (s : InRange 2 6 n) where
-  bid-here : BidAt n l b → BidIn l b
-  bid-here B =
-      let e : within 2 6 n ≡ true = in-range s in
-      let f : within 2 7 n ≡ true = inside 2 7 n (omega arith) (omega arith) in
-      record { buyer = B .buyer .yes f; price = B .price .yes e; differ = B .differ f; pays = B .pays e }
-
   bid-there : BidIn l b → BidAt n l b
   bid-there B =
       record { buyer = fills (inside 2 7 n (omega arith) (omega arith)) (B .buyer); price = fills (in-range s) (B .price); differ = λ _. B .differ; pays = λ _. B .pays }
@@ -146,14 +135,6 @@ module _ (n o : ℕ) (w : Kilograms) (t : Trade) (i : Invoices) (s : InRange 3 6
   abbrev traded : Record
   traded = flatRecord o w n (t .listing) (t .bid) (t .due) i
 
-  trade-here : FieldsIn traded → TradeIn t
-  trade-here F =
-      record {
-        listing = listing-here n (t .listing) (omega arith) (F .listing);
-        bid = bid-here n (t .listing) (t .bid) (omega arith) (F .bid);
-        due = F .due .yes (inside 3 7 n (omega arith) (omega arith));
-      }
-
   trade-there : Owned o w → TradeIn t → OwnerAt n o (t .listing .seller) (t .bid .buyer) → FieldsIn traded
   trade-there O T W =
       record {
@@ -165,57 +146,11 @@ module _ (n o : ℕ) (w : Kilograms) (t : Trade) (i : Invoices) (s : InRange 3 6
         owner = W;
       }
 
-  sellers-here : within 1 4 n || eqb n 7 ≡ true → FieldsIn traded → SellersIn o w t
-  sellers-here e F = record { owned = F .owned; owner = F .owner .is-seller e; trade = trade-here F }
-
   sellers-there : within 5 6 n ≡ false → SellersIn o w t → FieldsIn traded
   sellers-there e I = trade-there (I .owned) (I .trade) (by-seller n o (t .listing .seller) (t .bid .buyer) e (I .owner))
 
-  buyers-here : within 5 6 n ≡ true → FieldsIn traded → BuyersIn o w t
-  buyers-here e F = record { owned = F .owned; owner = F .owner .is-buyer e; trade = trade-here F }
-
   buyers-there : within 1 4 n || eqb n 7 ≡ false → BuyersIn o w t → FieldsIn traded
   buyers-there e I = trade-there (I .owned) (I .trade) (by-buyer n o (t .listing .seller) (t .bid .buyer) e (I .owner))
-
--- a valid record of a state from 1 on
-used : (r : Record) → 1 ≤ r .state → recordValid r ≡ true → Known r
-used r s h = known r h (owner-some r h s)
-
--- what a valid lot knows
-pub lot-in : (o : ℕ) (w : Kilograms) (lot : Lot) → recordValid (recordAs o w lot) ≡ true → LotIn o w lot
-unfolding recordOf full
-lot-in o w Idle h =
-    record {
-      unregistered = λ e. ap (λ (r : Record). r .weight .0) (unregistered (recordAs o w Idle) h e);
-      registered = λ n. known (recordAs o w Idle) h n .fields .owned;
-    }
-lot-in o w (Listed l) h =
-    let F = used (recordAs o w (Listed l)) (omega arith) h .fields in
-    record { owned = F .owned; owner = F .owner .is-seller refl; listing = listing-here 1 l (omega arith) (F .listing) }
-lot-in o w (BidStands l b) h =
-    let F = used (recordAs o w (BidStands l b)) (omega arith) h .fields in
-    record {
-      owned = F .owned;
-      owner = F .owner .is-seller refl;
-      listing = listing-here 2 l (omega arith) (F .listing);
-      bid = bid-here 2 l b (omega arith) (F .bid);
-    }
-lot-in o w (Struck t) h = sellers-here 3 o w t noInvoices (omega arith) refl (used (recordAs o w (Struck t)) (omega arith) h .fields)
-lot-in o w (Lodged t) h = sellers-here 4 o w t noInvoices (omega arith) refl (used (recordAs o w (Lodged t)) (omega arith) h .fields)
-lot-in o w (Settled t) h = buyers-here 5 o w t noInvoices (omega arith) refl (used (recordAs o w (Settled t)) (omega arith) h .fields)
-lot-in o w (FirstPaid t i) h =
-    let K = used (recordAs o w (FirstPaid t i)) (omega arith) h in
-    record { bought = buyers-here 6 o w t i (omega arith) refl (K .fields); invoices = K .invoices .yes refl }
-lot-in o w (PenaltyDue s b d) h =
-    let F = used (recordAs o w (PenaltyDue s b d)) (omega arith) h .fields in
-    record {
-      owned = F .owned;
-      owner = F .owner .is-seller refl;
-      seller-in = F .listing .seller .yes refl;
-      buyer-in = F .bid .buyer .yes refl;
-      differ = F .bid .differ refl;
-      due-in = F .due .yes refl;
-    }
 
 -- a record without invoices is valid by its fields
 plain : (r : Record) → eqb (r .state) 6 ≡ false → noInvoices ≡ invoicesOf r → FieldsIn r → recordValid r ≡ true
@@ -235,7 +170,7 @@ idle-valid o w I (no n) =
       owner = record { is-seller = λ t. absurd (false≢true t); is-buyer = λ t. absurd (false≢true t) };
     })
 
--- the other way: what a lot knows makes it valid
+-- what a lot knows makes it valid
 pub lot-valid : (o : ℕ) (w : Kilograms) (lot : Lot) → LotIn o w lot → recordValid (recordAs o w lot) ≡ true
 unfolding full
 lot-valid o w Idle I = idle-valid o w I (ℕ-discrete o 0)
@@ -275,11 +210,6 @@ lot-valid o w (PenaltyDue s b d) I =
       due = fills refl (I .due-in);
       owner = by-seller 7 o s b refl (I .owner);
     })
-
--- what a valid receipt knows of its lot, and the other way
-pub receipt-in : (r : Receipt) → recordValid (recordOf r) ≡ true → LotIn (r .owner) (r .weight) (r .lot)
-unfolding recordOf
-receipt-in r h = lot-in (r .owner) (r .weight) (r .lot) h
 
 pub receipt-valid : (r : Receipt) → LotIn (r .owner) (r .weight) (r .lot) → recordValid (recordOf r) ≡ true
 unfolding recordOf

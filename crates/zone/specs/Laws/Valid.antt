@@ -30,12 +30,6 @@ module _ {A : Type 0} (f : A → Bool) where
   all-at (a ∷ l) zero d h p = both _ _ h .0
   all-at (a ∷ l) (suc k) d h p = all-at l k d (both (f a) _ h .1) (le-of-suc-le-suc p)
 
-  -- what holds of each holds of all
-  pub all-of : (l : List A) (d : A) → ((k : ℕ) → k < length l → f (getD l k d) ≡ true) → all f l ≡ true
-  unfolding all
-  all-of [] d h = refl
-  all-of (a ∷ l) d h = join (h 0 (omega arith)) (all-of l d (λ k p. h (suc k) (omega arith)))
-
   -- an element that passes the test takes the place of another
   pub all-set : (l : List A) (k : ℕ) (a : A) → all f l ≡ true → f a ≡ true → all f (set l k a) ≡ true
   unfolding all

@@ -6,8 +6,8 @@ use mir.Facts.{toZ-ofZ}
 use Rattle.put.proofs.Runs.{start}
 use denote.Ref.{now}
 use borrow.Author.Needs.{needs}
-use Rattle.put.proofs.record_start.Statement.{statement}
-use Rattle.put.proofs.record_start.Tie as tie
+use Rattle.put.proofs.record_first_fields.Statement.{statement}
+use Rattle.put.proofs.record_first_fields.Tie as tie
 
 -- the basis as the machine holds it
 kept : (c : tie.Start) → toZ w32 (ofZ w32 (c .args .r .basis .0)) ≡ c .args .r .basis .0
@@ -44,8 +44,8 @@ returns : tie.Need-returns
 returns c =
     start (c .before .before .before .before .before .before .before .before .before .before .before .before .before .before .before .before .before .before .before .args .at) (c .before .before .before .before .before .before .before .before .before .before .before .before .before .before .before .before .before .before .before .args .r) (now (c .before .before .before .before .before .before .before .before .before .before .before .before .before .before .before .before .before .before .before .args .image)) _ (kept (c .before .before .before .before .before .before .before .before .before .before .before .before .before .before .before .before .before .before .before)) (c .before .before .before .before .before .before .before .before .before .before .before .before .before .before .before .put-run .ensures) (c .before .before .before .before .before .before .before .before .before .before .before .put-u16 .ensures) (c .before .before .before .before .before .before .before .put-u32 .ensures) (c .before .before .put-i32 .ensures)
 
-pub record-start-spec : {M : Type 1} → statement M
-record-start-spec =
+pub record-first-fields-spec : {M : Type 1} → statement M
+record-first-fields-spec =
     tie.close
     (tie.spec
     slice-aggregate-put-run
