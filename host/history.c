@@ -144,7 +144,8 @@ static struct finding hold_owners(const struct history *history, const uint8_t *
 {
     for (unsigned r = 1; r <= CRZ_RECEIPT_COUNT; r++) {
         const struct past *past = &history->lots[r];
-        uint8_t owner = past->settler != 0 ? past->settler : past->registrant;
+        uint8_t buyer_or_registrant = past->settler != 0 ? past->settler : past->registrant;
+        uint8_t owner = past->registrant == 0 ? 0 : buyer_or_registrant;
         if (crz_get_receipt(image, r).owner != owner)
             return (struct finding){SENTENCE_OWNER, r};
     }

@@ -494,25 +494,43 @@ fi
 
 # ── Progress ────────────────────────────────────────────────────────────────────────────────────────
 cat >terminal.py <<'END'
+"""Runs a command with a terminal as its standard error until it has said both texts there, or ends."""
 import os, pty, select, subprocess, sys, time
 try:
     master, slave = pty.openpty()
 except OSError as error:
     print("no terminal of our own (%s): progress is not tried" % error)
     sys.exit(0)
-player = subprocess.Popen(sys.argv[1:], stdout=subprocess.DEVNULL, stderr=slave)
-os.close(slave)
+texts, command = [text.encode() for text in sys.argv[1:3]], sys.argv[3:]
+program = subprocess.Popen(command, stdout=subprocess.DEVNULL, stderr=slave)
 seen, end = b"", time.time() + 20
-while b"calls" not in seen and time.time() < end and player.poll() is None:
-    if select.select([master], [], [], 1)[0]:
+while not all(text in seen for text in texts) and time.time() < end:
+    ended = program.poll() is not None
+    if select.select([master], [], [], 0 if ended else 1)[0]:
         seen += os.read(master, 100)
-player.kill()
-player.wait()
-sys.exit(0 if b"play: " in seen and b" of 20,000 calls" in seen else 1)
+    elif ended:
+        break
+program.kill()
+program.wait()
+sys.exit(0 if all(text in seen for text in texts) else 1)
 END
 "$crz" new long >/dev/null
-holds "a long script shows how far it is on a terminal" python3 terminal.py "$crz" play long many
+holds "a long script shows how far it is on a terminal" python3 terminal.py 'play: ' ' of 20,000 calls' "$crz" play long many
 holds "and nowhere else" test "$(timeout 2 "$crz" play long many 2>&1 >/dev/null | grep -c 'play: ')" -eq 0
+cat >clock.c <<'END'
+#include <time.h>
+int clock_gettime(clockid_t clock, struct timespec *time) /* every look at the clock is two seconds later */
+{
+    static time_t seconds;
+    (void)clock;
+    *time = (struct timespec){seconds += 2, 0};
+    return 0;
+}
+END
+if gcc -shared -fPIC -o clock.so clock.c 2>/dev/null; then
+    holds "a long verify shows it too" python3 terminal.py 'verify: ' ' calls' env LD_PRELOAD=./clock.so "$fast" verify long
+    holds "and nowhere else" test "$(LD_PRELOAD=./clock.so "$fast" verify long 2>&1 >/dev/null | grep -c 'verify: ')" -eq 0
+fi
 
 # ── Changed bytes ───────────────────────────────────────────────────────────────────────────────────
 "$crz" new good >/dev/null && "$crz" play good "$here/host/day.txt" >/dev/null

@@ -57,7 +57,7 @@ pub record Own (b : ℕ) (p : Past) : Type 0 where
   pub account : p .account ≡ b
 
 -- it holds what is left of n, of which m is paid, from b
-pub record Left (b n m : ℕ) (p : Past) : Type 0 where
+pub record Unpaid (b n m : ℕ) (p : Past) : Type 0 where
   pub last : oneOf (p .last) (4 ∷ 6 ∷ 7 ∷ []) ≡ false
   pub paying : afterSettlement p ≡ true
   pub buyer : p .buyer ≡ b
@@ -71,8 +71,8 @@ KnowsAt (suc zero) f p = Nil p
 KnowsAt (suc (suc zero)) f p = Deposit 4 (f .buyer) p × Own (f .buyer) p
 KnowsAt (suc (suc (suc zero))) f p = Deposit 6 (f .buyer) p
 KnowsAt (suc (suc (suc (suc zero)))) f p = Deposit 7 (f .buyer) p
-KnowsAt (suc (suc (suc (suc (suc zero))))) f p = Left (f .buyer) (full f .0) 0 p
-KnowsAt (suc (suc (suc (suc (suc (suc zero)))))) f p = Left (f .buyer) (full f .0) (firstPayment (full f) .0 + f .paid .0) p
+KnowsAt (suc (suc (suc (suc (suc zero))))) f p = Unpaid (f .buyer) (full f .0) 0 p
+KnowsAt (suc (suc (suc (suc (suc (suc zero)))))) f p = Unpaid (f .buyer) (full f .0) (firstPayment (full f) .0 + f .paid .0) p
 KnowsAt (suc (suc (suc (suc (suc (suc (suc n))))))) f p = Nil p
 
 -- whatever the state: whom the receipt belongs to, that a buyer came after a registration, and that no more was paid than settled
@@ -98,7 +98,7 @@ exact {f} {p} K = record { paid = K .rest .paid; left = λ _. omega (arith, K .r
 deposit-held : (x o b : ℕ) (p : Past) → oneOf o (4 ∷ 6 ∷ 7 ∷ []) ≡ true → Deposit o b p → heldIn x p ≡ fenOf x b (deposit .0)
 deposit-held x o b p h d = rw (d .last, h, d .bidder)
 
-left-held : (x b n m : ℕ) (p : Past) → Left b n m p → heldIn x p ≡ fenOf x b (n - m)
+left-held : (x b n m : ℕ) (p : Past) → Unpaid b n m p → heldIn x p ≡ fenOf x b (n - m)
 left-held x b n m p l = rw (l .last, l .paying, l .buyer, l .full, l .since)
 
 -- what a record holds, its state apart

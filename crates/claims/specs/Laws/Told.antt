@@ -39,7 +39,7 @@ use Rattle.rules.specs.Laws.Tables.{among-one}
 use Rattle.rules.specs.Tables.{among}
 use Rattle.rules.specs.View.{viewOf, recordOfReceipt}
 use Rattle.claims.specs.History.{Past, fenOf, withEntry, OwnAct, noStrike, ownCall, ownBid, belongs}
-use Rattle.claims.specs.Laws.Knows.{fen-zero, Left, KnowsAt, Rest, Known, known-at}
+use Rattle.claims.specs.Laws.Knows.{fen-zero, Unpaid, KnowsAt, Rest, Known, known-at}
 
 -- ── What a rule has to show ────────────────────────────────────────────────────────────────────
 
@@ -184,7 +184,7 @@ module _ (c : Call) (v : View) (p : Past) (n : ℕ) (f : Record) (K : Known f p)
   unfolding confirm recordOf full
   confirm-told ok e = go (eqb (f .confirmed .0 + f .pending .0) (full f .0)) refl
     where
-      L : Left (f .buyer) (full f .0) (firstPayment (full f) .0 + f .paid .0) p
+      L : Unpaid (f .buyer) (full f .0) (firstPayment (full f) .0 + f .paid .0) p
       L = known-at K 6 e
 
       P : PartPaid f

@@ -12,7 +12,7 @@ use Rattle.rules.specs.Events.{credit, debit, release, freeze, accountsAfter, p
 use Rattle.rules.specs.Laws.Tables.{put-index}
 use Rattle.rules.specs.Ready.{Funds}
 use Rattle.rules.specs.View.{recordOfReceipt}
-use Rattle.events.specs.Laws.Moved.{Changed, changed, encoded, record-valid, record-in-place}
+use Rattle.events.specs.Laws.Moved.{ReceiptPut, receipt-put, encoded, record-valid, record-in-place}
 use borrow.Author.Needs.{needs}
 use Rattle.events.proofs.post.Statement.{statement}
 use Rattle.events.proofs.post.Tie as tie
@@ -29,10 +29,10 @@ holds : (c : tie.After-hold-of2) → c .hold-of2 .result ≡ holdOf (recordOf (c
 holds c = c .hold-of2 .ensures ∙ ap holdOf (c .before .record-of .ensures)
 
 -- the image with the lot's receipt changed
-receipt-changed : (c : tie.After-receipt) → Changed (now (c .before .before .before .before .before .before .before .before .before .args .image)) (c .receipt .last .0) (c .before .before .before .before .before .before .before .before .before .args .e .lot) (c .before .before .before .before .before .before .before .before .before .args .r)
+receipt-changed : (c : tie.After-receipt) → ReceiptPut (now (c .before .before .before .before .before .before .before .before .before .args .image)) (c .receipt .last .0) (c .before .before .before .before .before .before .before .before .before .args .e .lot) (c .before .before .before .before .before .before .before .before .before .args .r)
 receipt-changed c =
     let z = decode (now (c .before .before .before .before .before .before .before .before .before .args .image)) in
-    changed (c .before .before .before .before .before .before .before .before .before .pre .1 .fits) (c .before .before .before .before .before .before .before .before .before .pre .1 .valid)
+    receipt-put (c .before .before .before .before .before .before .before .before .before .pre .1 .fits) (c .before .before .before .before .before .before .before .before .before .pre .1 .valid)
     (c .receipt .ensures ∙ ap (λ l. encode (withReceipts z l)) (sym (put-index (z .receipts) (c .before .before .before .before .before .before .before .before .before .args .e .lot) (c .before .before .before .before .before .before .before .before .before .args .r) (c .before .before .before .before .before .before .before .before .before .pre .1 .low))))
 
 -- the moves find their money

@@ -99,14 +99,14 @@ module _ (s : List ℕ) (F : Fits (decode s)) {old : Hold} {f t : ℕ} {k : Fen}
 -- ── A zone with another receipt ────────────────────────────────────────────────────────────────
 
 -- s′ is the image s with receipt n changed to r
-pub record Changed (s s′ : List ℕ) (n : ℕ) (r : Receipt) : Type 0 where
+pub record ReceiptPut (s s′ : List ℕ) (n : ℕ) (r : Receipt) : Type 0 where
   pub is : s′ ≡ encode (withReceipts (decode s) (put (decode s .receipts) n r))
   pub zone : decode s′ ≡ withReceipts (decode s) (put (decode s .receipts) n r)
   pub fits : Fits (withReceipts (decode s) (put (decode s .receipts) n r))
 
-pub changed : {s s′ : List ℕ} {n : ℕ} {r : Receipt} → Fits (decode s) → recordValid (recordOf r) ≡ true
-    → s′ ≡ encode (withReceipts (decode s) (put (decode s .receipts) n r)) → Changed s s′ n r
-changed {s} {s′} {n} {r} F v e =
+pub receipt-put : {s s′ : List ℕ} {n : ℕ} {r : Receipt} → Fits (decode s) → recordValid (recordOf r) ≡ true
+    → s′ ≡ encode (withReceipts (decode s) (put (decode s .receipts) n r)) → ReceiptPut s s′ n r
+receipt-put {s} {s′} {n} {r} F v e =
     let z : Zone = withReceipts (decode s) (put (decode s .receipts) n r) in
     let S : Sized z =
     record {

@@ -5,60 +5,21 @@ use mathlib.Core.Path.{_≡_, refl}
 use Prim.Native.Nat.{ℕ, zero, suc, _≤_, _<_}
 use native.Mathlib.Decide.{decLe, ℕ-discrete}
 use native.Mathlib.Omega.{arith}
-use borrow.Author.Tests.{ne-eqb, le-leb, lt-leb, leb-false}
+use borrow.Author.Tests.{ne-eqb, le-leb, lt-leb, leb-true, leb-false}
 use lib.Dec.{eqb, leb}
 use Rattle.units.specs.Ranges.{within}
 use Rattle.zone.specs.Laws.Tests.{both}
 use Rattle.rules.specs.Laws.Kinds.{by-kind}
 
--- no kind is above 15
-module _ (n : ℕ) (h : 15 < n) where
-  pub no-1 : eqb n 1 ≡ false
-  no-1 = ne-eqb n 1 (omega arith)
+-- a number above 15 is no kind, and above each
+module _ (n : ℕ) (h : 15 < n) (k : ℕ) (le : leb k 15 ≡ true) where
+  pub not-kind : eqb n k ≡ false
+  not-kind = ne-eqb n k (omega (arith, leb-true k 15 le))
 
-  pub no-2 : eqb n 2 ≡ false
-  no-2 = ne-eqb n 2 (omega arith)
+  pub above-kind : leb n k ≡ false
+  above-kind = lt-leb n k (omega (arith, leb-true k 15 le))
 
-  pub no-3 : eqb n 3 ≡ false
-  no-3 = ne-eqb n 3 (omega arith)
-
-  pub no-4 : eqb n 4 ≡ false
-  no-4 = ne-eqb n 4 (omega arith)
-
-  pub no-5 : eqb n 5 ≡ false
-  no-5 = ne-eqb n 5 (omega arith)
-
-  pub no-6 : eqb n 6 ≡ false
-  no-6 = ne-eqb n 6 (omega arith)
-
-  pub no-7 : eqb n 7 ≡ false
-  no-7 = ne-eqb n 7 (omega arith)
-
-  pub no-8 : eqb n 8 ≡ false
-  no-8 = ne-eqb n 8 (omega arith)
-
-  pub no-9 : eqb n 9 ≡ false
-  no-9 = ne-eqb n 9 (omega arith)
-
-  pub no-10 : eqb n 10 ≡ false
-  no-10 = ne-eqb n 10 (omega arith)
-
-  pub no-12 : eqb n 12 ≡ false
-  no-12 = ne-eqb n 12 (omega arith)
-
-  pub no-13 : eqb n 13 ≡ false
-  no-13 = ne-eqb n 13 (omega arith)
-
-  pub no-14 : eqb n 14 ≡ false
-  no-14 = ne-eqb n 14 (omega arith)
-
-  pub above-8 : leb n 8 ≡ false
-  above-8 = lt-leb n 8 (omega arith)
-
-  pub above-14 : leb n 14 ≡ false
-  above-14 = lt-leb n 14 (omega arith)
-
-pub ruleset no-kind = (no-1, no-2, no-3, no-4, no-5, no-6, no-7, no-8, no-9, no-10, no-12, no-13, no-14, above-8, above-14)
+pub ruleset no-kind = (not-kind, above-kind)
 
 -- what holds at 0, at each kind and above all kinds, holds
 module _ (P : ℕ → Type 0) where
