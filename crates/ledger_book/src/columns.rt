@@ -25,6 +25,8 @@ pub fn empty_book() -> Book {
     [0; BOOK_LENGTH]
 }
 
+// Where a number indexes an array it is tested against the length, here and in the other crates of tests: with the test each function is
+// proved safe without asking anything of its callers, none of which passes a number beyond.
 pub fn cell(book: &Book, column: u64, row: u64) -> u64 {
     if column < COLUMNS {
         if row < ROWS {

@@ -71,7 +71,6 @@ fn copy_byte(page: &Page, buffer: &mut [u8], at: usize) {
     }
 }
 
-// Copies the first bytes of a page into a buffer.
 pub fn copy_out(page: &Page, buffer: &mut [u8], count: usize) {
     for k in 0..count {
         copy_byte(page, buffer, k);

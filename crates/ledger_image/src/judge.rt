@@ -41,7 +41,6 @@ use ledger_book::WEIGHT;
 use ledger_book::ZEROS;
 use ledger_book::ZONE;
 use ledger_book::cell;
-use ledger_book::field;
 use ledger_book::full_of;
 use ledger_book::hold;
 use ledger_book::is_account;

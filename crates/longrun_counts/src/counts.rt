@@ -179,7 +179,7 @@ pub fn count_call(q: Request, v: Verdict, image: &Page, answer: &Page, tally: &m
     show(b"difference at call ", q.kind, v, tally);
 }
 
-// Counts a call on an altered image, apart from the others.
+// Apart from the others: what an altered image answers says little of how often a rule is reached.
 pub fn count_altered(q: Request, v: Verdict, tally: &mut Tally) {
     let number = v.of_library;
     count_limits(q, v.total, number, tally);
@@ -196,7 +196,6 @@ pub fn count_altered(q: Request, v: Verdict, tally: &mut Tally) {
     );
 }
 
-// Counts a buffer given to the fresh entry.
 pub fn count_fresh(length: usize, agree: bool, tally: &mut Tally) {
     add(tally, FRESH, 1);
     if !agree {

@@ -89,6 +89,7 @@ pub fn at_limit(limit: u64, step: u64) -> u64 {
 
 // ── Counting ────────────────────────────────────────────────────────────────────────────────────
 
+// No caller passes a place beyond; the tests make each function safe by itself.
 pub fn counted(tally: &Tally, place: u64) -> u64 {
     let k = place as usize;
     if k < TALLY_LENGTH {

@@ -48,7 +48,6 @@ pub fn request_of(kind: u64, account: u64, receipt: u64, amount: u64) -> Request
     }
 }
 
-// A quote of this ask.
 pub fn quote_of(contract: u64, ask: u64) -> Request {
     let mut q = request_of(9, 0, 0, ask);
     q.contract = contract;

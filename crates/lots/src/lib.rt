@@ -123,7 +123,7 @@ fn concerns(c: Call, state: u8, contract: u8) -> bool
     }
 }
 
-// The rule of the call at lot n.
+// What the call does at lot n; most lots are passed over.
 pub fn visit(image: &[u8], c: Call, n: u8) -> AtLot
     requires { ⌜ Encoded (now image) × (validZone (decode (now image)) ≡ true) × (sweeps (c .kind) ≡ true) × (1 ≤ n) × (n ≤ receiptCount) ⌝ }
     ensures { λ x. ⌜ x ≡ ruleAt c (decode (now (image .entry))) n ⌝ }
