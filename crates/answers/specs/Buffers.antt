@@ -67,6 +67,10 @@ answerTotalPlace = answerOffsetPlace + 4
 abbrev pub answerHeader : ℕ
 answerHeader = answerTotalPlace + 8
 
+-- entries start behind it
+abbrev pub entriesStart : ℕ
+entriesStart = answerHeader
+
 -- an entry: four single bytes, then its number
 abbrev pub entryLotPlace : ℕ
 entryLotPlace = 0
@@ -124,7 +128,7 @@ entryBytes e = e .lot ∷ e .outcome ∷ e .from ∷ e .to ∷ leBytes 4 (e .num
 
 -- number 0, the phase after the call, how many entries, where they start, the total after the call
 unfoldable pub headerOf : Bool → ℕ → ℕ → List ℕ
-headerOf afternoon count total = 0 ∷ phaseByte afternoon ∷ leBytes 2 count ++ leBytes 4 answerHeader ++ leBytes 8 total
+headerOf afternoon count total = 0 ∷ phaseByte afternoon ∷ leBytes 2 count ++ leBytes 4 entriesStart ++ leBytes 8 total
 
 -- header and entries
 unfoldable pub acceptedBytes : Zone → List Entry → List ℕ
