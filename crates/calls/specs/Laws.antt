@@ -1,3 +1,4 @@
 pub mod Good
 pub mod Swept
 pub mod Lots
+pub mod Ordered

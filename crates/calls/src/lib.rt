@@ -1,6 +1,9 @@
 // What an accepted call does in an image, part by part.
 ghost use mathlib.Core.Bool.{true};
+ghost use mathlib.Core.List.{_++_};
 ghost use mathlib.Core.Path.{_≡_};
+ghost use Prim.Native.Nat.{_≤_};
+ghost use lib.ListN.{take, drop};
 ghost use Rattle.units.specs.Ranges.{receiptCount};
 ghost use Rattle.zone.specs.Valid.{validZone};
 ghost use Rattle.image.specs.Image.{validImage, decode, encode, Encoded, Fits};
@@ -8,6 +11,7 @@ ghost use Rattle.rules.specs.declared.Step.the-variants.{Accepted};
 ghost use Rattle.rules.specs.Effects.{opening, ending, sweeps, ruleAt, effect};
 ghost use Rattle.rules.specs.EntryArray.{entryArray};
 ghost use Rattle.rules.specs.Events.{afterLot, sweep};
+ghost use Rattle.rules.specs.Order.{answerOrder};
 ghost use Rattle.rules.specs.Steps.{stepOn, numberOn};
 ghost use Rattle.events.specs.Posting.{CanPost};
 use rules::AtLot;
@@ -138,6 +142,20 @@ fn end_call(image: &mut [u8], c: Call)
     }
 }
 
+// ── The order of the entries ────────────────────────────────────────────────────────────────────
+
+// A quote lists its strikes by price; every other call has its entries as the lots were visited.
+fn answer_order(c: Call, es: Entries) -> Entries
+    requires { ⌜ es .count ≤ receiptCount ⌝ }
+    ensures { λ r. ⌜ (r .count ≡ es .count) × (r .all ≡ answerOrder (c .kind) (take (es .count) (es .all)) ++ drop (es .count) (es .all)) ⌝ }
+{
+    let kind = c.kind;
+    if kind == KIND_QUOTE {
+        return order::by_price(es);
+    }
+    es
+}
+
 // ── The whole call ──────────────────────────────────────────────────────────────────────────────
 
 // What an accepted call does, where `at` is what it does at the receipt that it names.
@@ -152,5 +170,5 @@ pub fn perform(image: &mut [u8], c: Call, at: AtLot) -> Entries
         post_one(image, at)
     };
     end_call(image, c);
-    entries
+    answer_order(c, entries)
 }

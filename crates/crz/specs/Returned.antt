@@ -1,16 +1,14 @@
--- What a call returns, and leaves in the image and in the answer (01 Answers). An equation but for one thing, the order of a quote's
--- entries (`AnswerOrder`).
+-- What a call returns, and leaves in the image and in the answer (01 Answers): all three are functions of the three buffers, in every case
+-- (02 1/12).
 -- Assumes nothing.
 use mathlib.Core.Bool.{not, cond}
 use mathlib.Core.List.{List}
 use mathlib.Core.Path.{_≡_}
-use Prim.Native.Nat.{ℕ, suc}
+use Prim.Native.Nat.{ℕ, zero, suc}
 use lib.Dec.{eqb, ltb}
 use lib.ListN.{length}
 use Rattle.rules.specs.declared.Call.{Call}
-use Rattle.rules.specs.declared.Entry.{Entry}
 use Rattle.rules.specs.Effects.{effect}
-use Rattle.rules.specs.Order.{AnswerOrder}
 use Rattle.rules.specs.Steps.{numberOn}
 use Rattle.image.specs.Image.{validImage, decode, encode}
 use Rattle.answers.specs.Buffers.{callLength, callIn, answerLength, refusedAnswer, acceptedAnswer}
@@ -37,18 +35,25 @@ recordNumber image call answer =
 unfoldable pub refusal : ℕ → List ℕ → List ℕ
 refusal n answer = cond (eqb n 1) answer (refusedAnswer n answer)
 
--- By the number returned. A refusal leaves the image; an accepted call the image of the zone after it, and the answer with its entries.
-pub data Left (image : List ℕ) (c : Call) (answer : List ℕ) : ℕ → List ℕ → List ℕ → Type 0 where
-  refused : (n : ℕ) → Left image c answer (suc n) image (refusal (suc n) answer)
-  accepted : (es : List Entry) → AnswerOrder c (effect (decode image) c .entries) es
-      → Left image c answer 0 (encode (effect (decode image) c .zone)) (acceptedAnswer (effect (decode image) c .zone) es answer)
+-- the number returned, and image and answer on return
+abbrev pub Return : Type 0
+Return = ℕ × List ℕ × List ℕ
+
+-- By its number. A refusal leaves the image; an accepted call leaves the image of the zone after it, and the answer with its entries.
+unfoldable pub returnBy : ℕ → List ℕ → Call → List ℕ → Return
+returnBy zero image c answer =
+    let d = effect (decode image) c in
+    (0, encode (d .zone), acceptedAnswer (d .zone) (d .entries) answer)
+returnBy (suc n) image c answer = (suc n, image, refusal (suc n) answer)
 
 -- of a call given by its fields
-pub record ReturnedWith (image : List ℕ) (c : Call) (answer : List ℕ) (number : ℕ) (image′ answer′ : List ℕ) : Type 0 where
-  pub is : number ≡ callNumber image c answer
-  pub left : Left image c answer number image′ answer′
+unfoldable pub callWith : List ℕ → Call → List ℕ → Return
+callWith image c answer = returnBy (callNumber image c answer) image c answer
 
 -- of a call given by its record
-pub record Returned (image call answer : List ℕ) (number : ℕ) (image′ answer′ : List ℕ) : Type 0 where
-  pub is : number ≡ recordNumber image call answer
-  pub left : Left image (callIn call) answer number image′ answer′
+unfoldable pub callEntry : List ℕ → List ℕ → List ℕ → Return
+callEntry image call answer = returnBy (recordNumber image call answer) image (callIn call) answer
+
+-- a call on these buffers returned this number, image and answer
+abbrev pub Returned : List ℕ → List ℕ → List ℕ → ℕ → List ℕ → List ℕ → Type 0
+Returned image call answer number image′ answer′ = (number, image′, answer′) ≡ callEntry image call answer

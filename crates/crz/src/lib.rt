@@ -9,7 +9,7 @@ ghost use Rattle.rules.specs.Effects.{effect};
 ghost use Rattle.rules.specs.Steps.{stepOn};
 ghost use Rattle.answers.specs.Buffers.{answerLength, acceptedAnswer};
 ghost use Rattle.crz.specs.Fresh.{freshEntry};
-ghost use Rattle.crz.specs.Returned.{Returned, ReturnedWith};
+ghost use Rattle.crz.specs.Returned.{callWith, callEntry};
 use answers::ANSWER_LENGTH;
 use image::IMAGE_LENGTH;
 use rules::AtLot;
@@ -33,7 +33,7 @@ fn carry_out(image: &mut [u8], answer: &mut [u8], c: Call, at: AtLot) -> u32
 
 // A call given by its fields.
 pub fn make_call(image: &mut [u8], c: Call, answer: &mut [u8]) -> u32
-    ensures { λ r. ⌜ ReturnedWith (now (image .entry)) c (now (answer .entry)) r (now (image .exit)) (now (answer .exit)) ⌝ }
+    ensures { λ r. ⌜ (r, now (image .exit), now (answer .exit)) ≡ callWith (now (image .entry)) c (now (answer .entry)) ⌝ }
 {
     if answer.len() < ANSWER_LENGTH {
         return NUMBER_SHORT_ANSWER as u32;
@@ -51,7 +51,7 @@ pub fn make_call(image: &mut [u8], c: Call, answer: &mut [u8]) -> u32
 // Makes a call on an image. Returns 0 and writes image and answer, or a refusal's number: 1 writes nothing, any other fills the answer.
 #[no_mangle]
 pub extern "C" fn crz_call(image: &mut [u8], call: &[u8], answer: &mut [u8]) -> u32
-    ensures { λ r. ⌜ Returned (now (image .entry)) (now (call .entry)) (now (answer .entry)) r (now (image .exit)) (now (answer .exit)) ⌝ }
+    ensures { λ r. ⌜ (r, now (image .exit), now (answer .exit)) ≡ callEntry (now (image .entry)) (now (call .entry)) (now (answer .entry)) ⌝ }
 {
     make_call(image, answers::read_call(call), answer)
 }

@@ -26,6 +26,7 @@ use Rattle.rules.specs.declared.Call.{Call}
 use Rattle.rules.specs.declared.Entry.{Entry}
 use Rattle.rules.specs.declared.View.{View}
 use Rattle.rules.specs.Events.{credit, debit, sweep, Done}
+use Rattle.rules.specs.Order.{answerOrder}
 use Rattle.rules.specs.Tables.{among, row, put}
 use Rattle.rules.specs.View.{viewOf, recordOfReceipt}
 
@@ -236,8 +237,12 @@ ending c z =
     let toNextDay : Zone → Zone = λ z. withClock (withAsks z noAsks) (z .day + 1) false in
     row (c .kind) asIs ((11 ∷ [], toAfternoon) ∷ (15 ∷ [], toNextDay) ∷ []) z
 
--- the zone after the call, and its entries by ascending lot (01 Answers 4)
+-- what the call does at its lots: on the zone of the opening, in ascending order (01 Calls 12, 14, 25)
+abbrev pub atLots : Zone → Call → Done
+atLots z c = sweep (ruleAt c) (lotCount c) (firstLot c) (opening c z)
+
+-- the zone after the call, and its entries in the order of the answer (01 Answers 4; 02 1/12)
 unfoldable pub effect : Zone → Call → Done
 effect z c =
-    let d = sweep (ruleAt c) (lotCount c) (firstLot c) (opening c z) in
-    record { zone = ending c (d .zone); entries = d .entries }
+    let d = atLots z c in
+    record { zone = ending c (d .zone); entries = answerOrder (c .kind) (d .entries) }

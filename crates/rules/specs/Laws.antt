@@ -7,6 +7,7 @@ pub mod Steps
 pub mod Passed
 pub mod Good
 pub mod Receipts
+pub mod Order
 pub mod Chain
 pub mod Fit
 pub mod Offers

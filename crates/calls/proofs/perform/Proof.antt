@@ -1,4 +1,4 @@
--- An opening, the lots that the call names, an ending; each leaves the image of a good zone.
+-- An opening, the lots that the call names, an ending; each leaves the image of a good zone. The entries are put in order last.
 use mathlib.Core.Bool.{false}
 use mathlib.Core.List.{List}
 use mathlib.Core.Logic.{⊎-elim}
@@ -10,7 +10,7 @@ use Rattle.units.specs.Ranges.{receiptCount}
 use Rattle.zone.specs.declared.Zone.{Zone}
 use Rattle.image.specs.Image.{decode, encode}
 use Rattle.image.specs.Laws.RoundTrip.{encode-decode, length-encode, valid-long, valid-decode}
-use Rattle.rules.specs.Effects.{ruleAt, sweeps, opening, ending, lotCount, firstLot, effect}
+use Rattle.rules.specs.Effects.{ruleAt, sweeps, opening, ending, lotCount, firstLot, atLots, effect}
 use Rattle.rules.specs.Events.{Done, afterLot, sweep}
 use Rattle.rules.specs.Laws.Chain.{path-of, sweep-chain, taken}
 use Rattle.rules.specs.Laws.Good.{Good}
@@ -24,6 +24,7 @@ use Rattle.rules.specs.EntryArray.{entryArray}
 use Rattle.lots.specs.Laws.Visits.{good-decode}
 use Rattle.calls.specs.Laws.Good.{Of, bytes-of}
 use Rattle.calls.specs.Laws.Lots.{AtReceipt, at-receipt, all-lots}
+use Rattle.calls.specs.Laws.Ordered.{count-few, ordered-entries}
 use borrow.Author.Needs.{needs}
 use Rattle.calls.proofs.perform.Statement.{statement}
 use Rattle.calls.proofs.perform.Tie as tie
@@ -47,7 +48,7 @@ good-opened c = opening-good (before-it c) (good c) (c .args .c) (passed c)
 
 -- what the lots leave
 abbrev lots : (c : tie.Start) → Done
-lots c = sweep (ruleAt (c .args .c)) (lotCount (c .args .c)) (firstLot (c .args .c)) (opening (c .args .c) (before-it c))
+lots c = atLots (before-it c) (c .args .c)
 
 good-lots : (c : tie.Start) → Good (lots c .zone)
 good-lots c = last-good (sweep-chain (c .args .c) (lotCount (c .args .c)) (firstLot (c .args .c)) 1 _ (path-of (before-it c) (c .args .c) (passed c))) (good-opened c)
@@ -105,12 +106,15 @@ post-one-requires c κs =
 end-call-requires : tie.Need-end-call-requires
 end-call-requires c κs = let L = left (c .before) in let O = bytes-of _ _ (L .image) (good-lots (c .before .before .before .before .before .before .before .before)) in (O .encoded, O .fits)
 
+answer-order-requires : tie.Need-answer-order-requires
+answer-order-requires c κs = count-few (before-it (c .before .before .before .before .before .before .before .before .before .before .before)) (c .before .before .before .before .before .before .before .before .before .before .before .args .c) _ (left (c .before .before .before .before) .entries)
+
 same-length : tie.Need-same-length
-same-length c = ap length (performed (c .before .before)) ∙ length-encode _ (taken-good (taken _ (c .before .before .before .before .before .before .before .before .before .before .before .args .c) (accepted (c .before .before .before .before .before .before .before .before .before .before .before) .number)) (good (c .before .before .before .before .before .before .before .before .before .before .before)) .sized) ∙ sym (valid-long _ (c .before .before .before .before .before .before .before .before .before .before .before .pre .0))
+same-length c = ap length (performed (c .before .before .before)) ∙ length-encode _ (taken-good (taken _ (c .before .before .before .before .before .before .before .before .before .before .before .before .args .c) (accepted (c .before .before .before .before .before .before .before .before .before .before .before .before) .number)) (good (c .before .before .before .before .before .before .before .before .before .before .before .before)) .sized) ∙ sym (valid-long _ (c .before .before .before .before .before .before .before .before .before .before .before .before .pre .0))
 
 returns : tie.Need-returns
 unfolding effect
-returns c = (performed (c .before .before), left (c .before .before .before .before) .entries)
+returns c = (performed (c .before .before .before), ordered-entries (c .before .before .before .before .before .before .before .before .before .before .before .before .args .c .kind) _ _ _ (left (c .before .before .before .before .before) .entries) (c .answer-order .ensures))
 
 pub perform-spec : {M : Type 1} → statement M
 perform-spec =
@@ -121,5 +125,6 @@ perform-spec =
     sweep-lots-requires
     post-one-requires
     end-call-requires
+    answer-order-requires
     same-length
     returns)

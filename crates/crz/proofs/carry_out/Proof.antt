@@ -14,7 +14,7 @@ use Rattle.rules.specs.declared.Entries.{Entries}
 use Rattle.lots.specs.Laws.Visits.{good-decode}
 use Rattle.calls.specs.Laws.Good.{bytes-of}
 use Rattle.answers.specs.Buffers.{acceptedAnswer}
-use Rattle.crz.specs.Laws.Entries.{count-few, entries-listed}
+use Rattle.calls.specs.Laws.Ordered.{array-few, entries-listed}
 use borrow.Author.Needs.{needs}
 use Rattle.crz.proofs.carry_out.Statement.{statement}
 use Rattle.crz.proofs.carry_out.Tie as tie
@@ -31,7 +31,7 @@ perform-requires c κs = (c .before .before .before .pre .1, c .before .before .
 fill-answer-requires : tie.Need-fill-answer-requires
 fill-answer-requires c κs =
     let e = c .before .before .before .before .perform .ensures in
-    (c .before .before .before .before .before .before .before .before .pre .0, ap length (e .0) ∙ length-encode _ (good (c .before .before .before .before .before .before .before .before) .sized), rw (e .1) (count-few _ (c .before .before .before .before .before .before .before .before .args .c)))
+    (c .before .before .before .before .before .before .before .before .pre .0, ap length (e .0) ∙ length-encode _ (good (c .before .before .before .before .before .before .before .before) .sized), rw (e .1) (array-few _ (c .before .before .before .before .before .before .before .before .args .c)))
 
 cast-result : tie.Need-cast-result
 cast-result c = search needs

@@ -2,7 +2,7 @@
 -- Assumes nothing.
 use mathlib.Core.Bool.{Bool, true, false, not, cond}
 use mathlib.Core.List.{List}
-use mathlib.Core.Path.{_≡_, refl, sym, ap, _∙_, subst}
+use mathlib.Core.Path.{_≡_, refl, sym, ap, _∙_}
 use Prim.Native.Nat.{ℕ, zero, suc, _≤_, _<_}
 use native.Mathlib.Omega.{arith}
 use borrow.Author.Tests.{lt-ltb, le-ltb, ne-eqb}
@@ -12,11 +12,10 @@ use Rattle.zone.specs.declared.Zone.{Zone}
 use Rattle.rules.specs.declared.Call.{Call}
 use Rattle.rules.specs.Effects.{effect}
 use Rattle.rules.specs.Numbers.{illFormed, firstNumber}
-use Rattle.rules.specs.Order.{asRuled}
 use Rattle.rules.specs.Steps.{stepAt, numberOn}
 use Rattle.image.specs.Image.{validImage, decode, encode}
 use Rattle.answers.specs.Buffers.{callLength, answerLength, callIn, noCall, callOrNone, refusedAnswer, acceptedAnswer}
-use Rattle.crz.specs.Returned.{afterBufferNumbers, callNumber, recordNumber, refusal, Left, refused, accepted, ReturnedWith, Returned}
+use Rattle.crz.specs.Returned.{afterBufferNumbers, callNumber, recordNumber, refusal, Return, returnBy, callWith, callEntry, Returned}
 
 -- ── The number ─────────────────────────────────────────────────────────────────────────────────
 
@@ -61,24 +60,26 @@ refusal-written n r answer answer′ e h q = q ∙ sym (rw (e, ne-eqb n 1 h))
 
 -- ── What is returned ───────────────────────────────────────────────────────────────────────────
 
-refused-left : (image : List ℕ) (c : Call) (answer : List ℕ) (r : ℕ) (answer′ : List ℕ) → (r ≡ 0 → ⊥) → answer′ ≡ refusal r answer →
-    Left image c answer r image answer′
-refused-left image c answer zero answer′ h e = absurd (h refl)
-refused-left image c answer (suc n) answer′ h e = subst (Left image c answer (suc n) image) (sym e) (refused n)
+module _ (image : List ℕ) (c : Call) (answer : List ℕ) where
+  refused-by-number : (r : ℕ) (answer′ : List ℕ) → (r ≡ 0 → ⊥) → answer′ ≡ refusal r answer → (r, image, answer′) ≡ returnBy r image c answer
+  unfolding returnBy
+  refused-by-number zero answer′ h e = absurd (h refl)
+  refused-by-number (suc n) answer′ h e = ap (λ (a : List ℕ). (suc n, image, a)) e
 
-module _ (image : List ℕ) (c : Call) (answer : List ℕ) (r : ℕ) where
-  pub refused-with : (answer′ : List ℕ) → r ≡ callNumber image c answer → (r ≡ 0 → ⊥) → answer′ ≡ refusal r answer →
-      ReturnedWith image c answer r image answer′
-  refused-with answer′ is h e = record { is = is; left = refused-left image c answer r answer′ h e }
+  module _ (r : ℕ) where
+    pub refused-with : (answer′ : List ℕ) → r ≡ callNumber image c answer → (r ≡ 0 → ⊥) → answer′ ≡ refusal r answer
+        → (r, image, answer′) ≡ callWith image c answer
+    unfolding callWith
+    refused-with answer′ is h e = refused-by-number r answer′ h e ∙ ap (λ (n : ℕ). returnBy n image c answer) is
 
-  pub done-with : (image′ answer′ : List ℕ) → r ≡ 0 → 0 ≡ callNumber image c answer → image′ ≡ encode (effect (decode image) c .zone)
-      → answer′ ≡ acceptedAnswer (effect (decode image) c .zone) (effect (decode image) c .entries) answer
-      → ReturnedWith image c answer r image′ answer′
-  done-with image′ answer′ z is ei ea =
-      record {
-        is = z ∙ is;
-        left = rw (z, ei, ea) (accepted (effect (decode image) c .entries) asRuled);
-      }
+    pub done-with : (image′ answer′ : List ℕ) → r ≡ 0 → 0 ≡ callNumber image c answer → image′ ≡ encode (effect (decode image) c .zone)
+        → answer′ ≡ acceptedAnswer (effect (decode image) c .zone) (effect (decode image) c .entries) answer
+        → (r, image′, answer′) ≡ callWith image c answer
+    unfolding callWith returnBy
+    done-with image′ answer′ z is ei ea =
+        let d = effect (decode image) c in
+        let all : _≡_ {A = Return} (r, image′, answer′) (0, encode (d .zone), acceptedAnswer (d .zone) (d .entries) answer) = λ i. (z i, ei i, ea i) in
+        all ∙ ap (λ (n : ℕ). returnBy n image c answer) is
 
 -- ── A record of any length ─────────────────────────────────────────────────────────────────────
 
@@ -90,30 +91,44 @@ no-call-with : (image answer : List ℕ) → callNumber image noCall answer ≡ 
 unfolding callNumber
 no-call-with image answer = ap (afterBufferNumbers image answer) (no-call-number (decode image))
 
--- 3 is refused, if nothing before it is
-never-done : (image answer : List ℕ) (r : ℕ) → r ≡ afterBufferNumbers image answer 3 → r ≡ 0 → ⊥
-unfolding afterBufferNumbers
-never-done image answer r is z = go (ltb (length answer) answerLength) (validImage image) (sym z ∙ is)
+-- 3 is refused, if nothing before it is, and a refusal leaves the same behind whatever the call
+refused-alike : (image answer : List ℕ) (b c : Call) → returnBy (afterBufferNumbers image answer 3) image b answer
+    ≡ returnBy (afterBufferNumbers image answer 3) image c answer
+unfolding afterBufferNumbers returnBy
+refused-alike image answer b c = go (ltb (length answer) answerLength) (validImage image)
   where
-    go : (a b : Bool) → _≡_ {A = ℕ} 0 (cond a 1 (cond (not b) 2 3)) → ⊥
-    go true b q = omega arith
-    go false true q = omega arith
-    go false false q = omega arith
+    go : (x y : Bool) → returnBy (cond x 1 (cond (not y) 2 3)) image b answer ≡ returnBy (cond x 1 (cond (not y) 2 3)) image c answer
+    go true y = refl
+    go false true = refl
+    go false false = refl
 
--- a refusal leaves the same behind whatever the call
-left-same : {image answer image′ answer′ : List ℕ} {r : ℕ} (b c : Call) → Left image b answer r image′ answer′ → (r ≡ 0 → ⊥)
-    → Left image c answer r image′ answer′
-left-same b c (refused n) h = refused n
-left-same b c (accepted es l) h = absurd (h refl)
+pub record-call : (image call answer : List ℕ) → callWith image (callOrNone call) answer ≡ callEntry image call answer
+unfolding callWith callEntry recordNumber callOrNone
+record-call image call answer = go (eqb (length call) callLength)
+  where
+    go : (b : Bool) → returnBy (callNumber image (cond b (callIn call) noCall) answer) image (cond b (callIn call) noCall) answer
+        ≡ returnBy (cond b (callNumber image (callIn call) answer) (afterBufferNumbers image answer 3)) image (callIn call) answer
+    go true = refl
+    go false = ap (λ (n : ℕ). returnBy n image noCall answer) (no-call-with image answer) ∙ refused-alike image answer noCall (callIn call)
 
-module _ (image call answer : List ℕ) (r : ℕ) (image′ answer′ : List ℕ) where
-  pub returned-record : ReturnedWith image (callOrNone call) answer r image′ answer′ → Returned image call answer r image′ answer′
-  unfolding recordNumber callOrNone
-  returned-record = go (eqb (length call) callLength) refl
-    where
-      go : (b : Bool) → eqb (length call) callLength ≡ b → ReturnedWith image (cond b (callIn call) noCall) answer r image′ answer′
-          → Returned image call answer r image′ answer′
-      go true e R = record { is = R .is ∙ rw e; left = R .left }
-      go false e R =
-          let is : r ≡ afterBufferNumbers image answer 3 = R .is ∙ no-call-with image answer in
-          record { is = is ∙ rw e; left = left-same noCall (callIn call) (R .left) (never-done image answer r is) }
+-- ── From what was returned ─────────────────────────────────────────────────────────────────────
+
+-- refused or accepted
+pub data Left (image : List ℕ) (c : Call) (answer : List ℕ) : ℕ → List ℕ → List ℕ → Type 0 where
+  refused : (n : ℕ) → Left image c answer (suc n) image (refusal (suc n) answer)
+  accepted : Left image c answer 0 (encode (effect (decode image) c .zone))
+      (acceptedAnswer (effect (decode image) c .zone) (effect (decode image) c .entries) answer)
+
+pub record Came (image call answer : List ℕ) (number : ℕ) (image′ answer′ : List ℕ) : Type 0 where
+  pub is : number ≡ recordNumber image call answer
+  pub left : Left image (callIn call) answer number image′ answer′
+
+pub came : (image call answer : List ℕ) (number : ℕ) (image′ answer′ : List ℕ) → Returned image call answer number image′ answer′
+    → Came image call answer number image′ answer′
+unfolding callEntry returnBy
+came image call answer number image′ answer′ = go (recordNumber image call answer) refl
+  where
+    go : (n : ℕ) → n ≡ recordNumber image call answer → (number, image′, answer′) ≡ returnBy n image (callIn call) answer
+        → Came image call answer number image′ answer′
+    go zero e R = rw (ap (λ (t : Return). t .0) R, ap (λ (t : Return). t .1) R, ap (λ (t : Return). t .2) R) (record { is = e; left = accepted })
+    go (suc n) e R = rw (ap (λ (t : Return). t .0) R, ap (λ (t : Return). t .1) R, ap (λ (t : Return). t .2) R) (record { is = e; left = refused n })

@@ -13,7 +13,7 @@ use Rattle.rules.specs.declared.Call.{Call}
 use Rattle.rules.specs.declared.Entry.{Entry}
 use Rattle.rules.specs.declared.AtLot.{AtLot}
 use Rattle.rules.specs.declared.AtLot.the-variants.{NoEvent, Event}
-use Rattle.rules.specs.Effects.{ruleAt, opening, sweeps, firstLot, lotCount, ending, effect}
+use Rattle.rules.specs.Effects.{ruleAt, opening, sweeps, firstLot, lotCount, ending, atLots, effect}
 use Rattle.rules.specs.Events.{posted, Done, afterLot, sweep}
 use Rattle.rules.specs.Laws.Kinds.{withKind, ByKind, by-kind}
 use Rattle.rules.specs.Laws.Passed.{PassedAt, passed-at, ranges, kind-in}
@@ -106,11 +106,11 @@ walk I f (link {z = z} n e r a b h v q t) i = walk I f t (f z n e r a h v q i)
 
 -- ── Every accepted call ────────────────────────────────────────────────────────────────────────
 
-pub record Taken (z : Zone) (c : Call) (d : Done) : Type 0 where
+pub record Taken (z : Zone) (c : Call) : Type 0 where
   pub passed : PassedAt c z (c .receipt)
   pub last : Zone
-  pub chain : Chain c 1 (opening c z) (d .entries) last
-  pub zone : d .zone ≡ ending c last
+  pub chain : Chain c 1 (opening c z) (atLots z c .entries) last
+  pub zone : effect z c .zone ≡ ending c last
 
 -- no lot, the lot named, all lots
 nowhere : (c : Call) (z : Zone) (n : ℕ) → Path c z 1 n 0
@@ -161,15 +161,15 @@ module _ (z : Zone) (c : Call) where
   unfolding PathAt
   path-of = by-kind path (c .kind)
 
-  pub taken-of : PassedAt c z (c .receipt) → Taken z c (effect z c)
+  pub taken-of : PassedAt c z (c .receipt) → Taken z c
   unfolding effect
   taken-of P =
       record {
         passed = P;
-        last = sweep (ruleAt c) (lotCount c) (firstLot c) (opening c z) .zone;
+        last = atLots z c .zone;
         chain = sweep-chain c (lotCount c) (firstLot c) 1 (opening c z) (path-of P);
         zone = refl;
       }
 
-  pub taken : numberOn z c ≡ 0 → Taken z c (effect z c)
+  pub taken : numberOn z c ≡ 0 → Taken z c
   taken h = taken-of (passed-at z c h)

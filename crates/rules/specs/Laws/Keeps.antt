@@ -16,8 +16,8 @@ use Rattle.zone.specs.Laws.Tests.{InRange, range-in}
 use Rattle.zone.specs.Valid.{all, askOk}
 use Rattle.rules.specs.declared.Call.{Call}
 use Rattle.rules.specs.declared.Entry.{Entry}
-use Rattle.rules.specs.Effects.{opening, ending}
-use Rattle.rules.specs.Events.{posted, Done}
+use Rattle.rules.specs.Effects.{opening, ending, effect}
+use Rattle.rules.specs.Events.{posted}
 use Rattle.rules.specs.Laws.Chain.{Chain, Taken, walk}
 use Rattle.rules.specs.Laws.Good.{Good}
 use Rattle.rules.specs.Laws.Kinds.{withKind}
@@ -194,8 +194,8 @@ module _ (z last : Zone) (same : last .day ≡ z .day) (G : Good last) (c : Call
 
 -- ── A whole call ───────────────────────────────────────────────────────────────────────────────
 
-pub taken-good : {z : Zone} {c : Call} {d : Done} → Taken z c d → Good z → Good (d .zone)
-taken-good {z} {c} {d} T G =
+pub taken-good : {z : Zone} {c : Call} → Taken z c → Good z → Good (effect z c .zone)
+taken-good {z} {c} T G =
     let P : PassedAt c z (c .receipt) = T .passed in
     let O : Good (opening c z) = opening-good z G c P in
     subst Good (sym (T .zone))
