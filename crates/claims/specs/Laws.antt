@@ -5,4 +5,5 @@ pub mod Order
 pub mod Kept
 pub mod Values
 pub mod Demand
+pub mod Quotes
 pub mod RoundTrips

@@ -1,3 +1,4 @@
+pub mod PriceOrder
 pub mod History
 pub mod Demand
 pub mod Kept
@@ -6,4 +7,5 @@ pub mod Words
 pub mod Replay
 pub mod Examples
 pub mod Traps
+pub mod StrikesListed
 pub mod Laws

@@ -2,8 +2,8 @@
 -- Assumes nothing.
 use mathlib.Core.Bool.{Bool, true, false, not, cond}
 use mathlib.Core.List.{List, [], _∷_, map}
-use mathlib.Core.Path.{_≡_, refl, sym, ap, _∙_, subst}
-use Prim.Native.Nat.{ℕ, zero, suc, _^_, _<_}
+use mathlib.Core.Path.{_≡_, refl, sym, subst}
+use Prim.Native.Nat.{ℕ, zero, suc}
 use native.Mathlib.Nat.{le-of-suc-le-suc, not-suc-le-zero}
 use native.Mathlib.Omega.{arith}
 use lib.Dec.{eqb, ltb}
@@ -14,56 +14,36 @@ use Rattle.rules.specs.declared.Call.{Call}
 use Rattle.rules.specs.declared.Entry.{Entry}
 use Rattle.rules.specs.Effects.{effect}
 use Rattle.rules.specs.Events.{Done}
-use Rattle.rules.specs.Order.{Permuted, none, keep, swap, via, AnswerOrder, asRuled, anyOrder}
 use Rattle.rules.specs.Steps.{numberOn}
 use Rattle.image.specs.Image.{validImage, decode, encode}
 use Rattle.image.specs.Laws.RoundTrip.{decode-encode, valid-encode, valid-decode, fresh-valid, fresh-sized, decode-sized}
 use Rattle.answers.specs.Buffers.{callLength, answerLength, callIn, entriesIn, acceptedAnswer}
 use Rattle.answers.specs.Laws.ReadBack.{Numbered, entries-back}
-use Rattle.crz.specs.Returned.{afterBufferNumbers, callNumber, recordNumber, Left, refused, accepted}
+use Rattle.crz.specs.Laws.Returned.{Left, refused, accepted, came}
+use Rattle.crz.specs.Returned.{afterBufferNumbers, callNumber, recordNumber}
 use Rattle.claims.specs.Demand.{Exchange, MadeFrom, noCalls, next, fed, KeepsImage, ImageKept, StaysValid, FreshIsValid, Demand3}
 use Rattle.claims.specs.History.{acceptedWith}
-use Rattle.claims.specs.Kept.{NumbersFit, Ascending, Kept}
+use Rattle.claims.specs.Kept.{EntryFits, NumbersFit, Kept}
+use Rattle.claims.specs.PriceOrder.{Each}
 use Rattle.claims.specs.Laws.Values.{After, after-refused, after-accepted, after-fresh, holds}
 use Rattle.claims.specs.Laws.Kept.{keeps-valid}
 
 -- ── The entries of an answer ───────────────────────────────────────────────────────────────────
 
-small-ascending : (n : ℕ) (es : List Entry) → Ascending n es → NumbersFit es
-small-ascending n [] a = tt
-small-ascending n (e ∷ es) a = (a .1 .number, small-ascending (suc (e .lot)) es (a .2))
-
-small-permuted : {es fs : List Entry} → Permuted es fs → NumbersFit es → NumbersFit fs
-small-permuted none s = tt
-small-permuted (keep p) s = (s .0, small-permuted p (s .1))
-small-permuted swap s = (s .1 .0, (s .0, s .1 .1))
-small-permuted (via p q) s = small-permuted q (small-permuted p s)
-
-length-permuted : {es fs : List Entry} → Permuted es fs → length fs ≡ length es
-length-permuted none = refl
-length-permuted (keep p) = ap suc (length-permuted p)
-length-permuted swap = refl
-length-permuted (via p q) = length-permuted q ∙ length-permuted p
+numbers-fit : (es : List Entry) → Each EntryFits es → NumbersFit es
+numbers-fit [] f = tt
+numbers-fit (e ∷ es) f = (f .0 .number, numbers-fit es (f .1))
 
 pub numbered : (es : List Entry) → NumbersFit es → Numbered es
 numbered [] s k h = absurd (not-suc-le-zero h)
 numbered (e ∷ es) s zero h = s .0
 numbered (e ∷ es) s (suc k) h = numbered es (s .1) k (le-of-suc-le-suc h)
 
--- as a quote may list them
-ordered-small : {c : Call} {es fs : List Entry} → AnswerOrder c es fs → NumbersFit es → NumbersFit fs
-ordered-small asRuled s = s
-ordered-small (anyOrder k p) s = small-permuted p s
-
-ordered-length : {c : Call} {es fs : List Entry} → AnswerOrder c es fs → length fs ≡ length es
-ordered-length asRuled = refl
-ordered-length (anyOrder k p) = length-permuted p
-
 -- ── Number 0 ───────────────────────────────────────────────────────────────────────────────────
 
-record Zero (image : List ℕ) (c : Call) : Type 0 where
-  valid : validImage image ≡ true
-  number : numberOn (decode image) c ≡ 0
+pub record Zero (image : List ℕ) (c : Call) : Type 0 where
+  pub valid : validImage image ≡ true
+  pub number : numberOn (decode image) c ≡ 0
 
 behind-0 : (image answer : List ℕ) (n : ℕ) → 0 ≡ afterBufferNumbers image answer n → (validImage image ≡ true) × (n ≡ 0)
 unfolding afterBufferNumbers
@@ -74,7 +54,7 @@ behind-0 image answer n h = go (ltb (length answer) answerLength) (validImage im
     go false true h = (refl, sym h)
     go false false h = absurd (omega arith)
 
-zero-for : (image call answer : List ℕ) → 0 ≡ recordNumber image call answer → Zero image (callIn call)
+pub zero-for : (image call answer : List ℕ) → 0 ≡ recordNumber image call answer → Zero image (callIn call)
 unfolding recordNumber callNumber
 zero-for image call answer h = go (eqb (length call) callLength) h
   where
@@ -88,7 +68,7 @@ module _ (image : List ℕ) (c : Call) (ok : Zero image c) where
   abbrev done : Done
   done = effect (decode image) c
 
-  kept : Kept done
+  kept : Kept (c .kind) done
   kept = keeps-valid (decode image) c (decode-sized image) (valid-decode image (ok .valid)) (ok .number)
 
   new-valid : validImage (encode (done .zone)) ≡ true
@@ -97,19 +77,19 @@ module _ (image : List ℕ) (c : Call) (ok : Zero image c) where
   new-zone : decode (encode (done .zone)) ≡ done .zone
   new-zone = decode-encode (done .zone) (kept .sized) (kept .valid)
 
-  read-back : (es : List Entry) (answer : List ℕ) → AnswerOrder c (done .entries) es → entriesIn (acceptedAnswer (done .zone) es answer) ≡ es
-  read-back es answer p =
-      entries-back (done .zone) es answer (omega (arith, ordered-length p, kept .count))
-      (numbered es (ordered-small p (small-ascending 1 (done .entries) (kept .ascending))))
+  pub read-back : (answer : List ℕ) → entriesIn (acceptedAnswer (done .zone) (done .entries) answer) ≡ done .entries
+  read-back answer = entries-back (done .zone) (done .entries) answer (omega (arith, kept .count)) (numbered (done .entries) (numbers-fit (done .entries) (kept .fit)))
 
 -- ── The claims ─────────────────────────────────────────────────────────────────────────────────
 
 pub image-kept : ImageKept
-image-kept image call answer number image′ answer′ R = go (R .left) (R .is)
+image-kept image call answer number image′ answer′ R =
+    let C = came image call answer number image′ answer′ R in
+    go (C .left) (C .is)
   where
     go : {n : ℕ} {i a : List ℕ} → Left image (callIn call) answer n i a → n ≡ recordNumber image call answer → KeepsImage image n i
     go (refused n) e = record { accepted = λ h. absurd (omega arith); refused = λ n h. refl }
-    go (accepted es p) e = record { accepted = λ h. new-valid image (callIn call) (zero-for image call answer e); refused = λ n h. absurd (omega arith) }
+    go accepted e = record { accepted = λ h. new-valid image (callIn call) (zero-for image call answer e); refused = λ n h. absurd (omega arith) }
 
 record AfterOn (list : List Exchange) (image : List ℕ) : Type 0 where
   valid : validImage image ≡ true
@@ -119,15 +99,15 @@ after-next : {list : List Exchange} {image : List ℕ} (call answer : List ℕ) 
     → Left image (callIn call) answer number image′ answer′ → number ≡ recordNumber image call answer
     → AfterOn (record { call = call; number = number; answer = answer′ } ∷ list) image′
 after-next call answer A (refused n) e = record { valid = A .valid; after = after-refused (callIn call) (suc n) (A .after) }
-after-next {list} {image} call answer A (accepted es p) e =
+after-next {list} {image} call answer A accepted e =
     let c : Call = callIn call in
     let Z : Zero image c = zero-for image call answer e in
     let d : Done = effect (decode image) c in
-    let B : After ((c, acceptedWith es) ∷ map fed list) (d .zone) = after-accepted c es (A .after) (Z .number) p in
+    let B : After ((c, acceptedWith (d .entries)) ∷ map fed list) (d .zone) = after-accepted c (A .after) (Z .number) in
     record {
       valid = new-valid image c Z;
-      after = subst (λ (z : Zone). After ((c, acceptedWith (entriesIn (acceptedAnswer (d .zone) es answer))) ∷ map fed list) z) (sym (new-zone image c Z))
-          (subst (λ (fs : List Entry). After ((c, acceptedWith fs) ∷ map fed list) (d .zone)) (sym (read-back image c Z es answer p)) B);
+      after = subst (λ (z : Zone). After ((c, acceptedWith (entriesIn (acceptedAnswer (d .zone) (d .entries) answer))) ∷ map fed list) z) (sym (new-zone image c Z))
+          (subst (λ (fs : List Entry). After ((c, acceptedWith fs) ∷ map fed list) (d .zone)) (sym (read-back image c Z answer)) B);
     }
 
 after-fresh-image : AfterOn [] (encode freshZone)
@@ -136,7 +116,9 @@ after-fresh-image =
 
 after-made : {list : List Exchange} {image : List ℕ} → MadeFrom (encode freshZone) list image → AfterOn list image
 after-made noCalls = after-fresh-image
-after-made (next m call answer number image′ answer′ R) = after-next call answer (after-made m) (R .left) (R .is)
+after-made (next {list} {image} m call answer number image′ answer′ R) =
+    let C = came image call answer number image′ answer′ R in
+    after-next call answer (after-made m) (C .left) (C .is)
 
 pub demand3 : Demand3
 demand3 list image m = holds (map fed list) (decode image) (after-made m .after)

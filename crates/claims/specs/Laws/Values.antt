@@ -14,7 +14,7 @@ use Rattle.zone.specs.Record.{recordOf, recordAs}
 use Rattle.zone.specs.Valid.{Sized, validZone, freshZone}
 use Rattle.rules.specs.declared.Call.{Call}
 use Rattle.rules.specs.declared.Entry.{Entry}
-use Rattle.rules.specs.Effects.{opening, ending, effect}
+use Rattle.rules.specs.Effects.{opening, ending, atLots, effect}
 use Rattle.rules.specs.Events.{posted}
 use Rattle.rules.specs.Laws.Chain.{Taken, taken}
 use Rattle.rules.specs.Laws.Fit.{funded, fit-lot}
@@ -23,14 +23,14 @@ use Rattle.rules.specs.Laws.Keeps.{opening-good}
 use Rattle.rules.specs.Laws.Links.{Linked, Walk, good-walk}
 use Rattle.rules.specs.Steps.{numberOn}
 use Rattle.rules.specs.View.{receiptOfNumber}
-use Rattle.rules.specs.Order.{AnswerOrder, asRuled, anyOrder}
 use Rattle.claims.specs.Demand.{Holds}
 use Rattle.claims.specs.History.{Reply, refusedWith, acceptedWith, HistoryTable, enter, enterAll, paidInOrOut, history, EachOwnAct, EachStrikeOwnAct}
 use Rattle.claims.specs.Kept.{Kept}
 use Rattle.claims.specs.Laws.InStep.{InStep, event-kept, opening-kept, ending-kept, fresh-in-step, sum-kept}
-use Rattle.claims.specs.Laws.Kept.{keeps-valid}
+use Rattle.claims.specs.Laws.Kept.{lots-ordered, keeps-valid}
 use Rattle.claims.specs.Laws.Knows.{exact}
-use Rattle.claims.specs.Laws.Order.{Apart, ascending-apart, permuted-enter, permuted-fair}
+use Rattle.claims.specs.Laws.Order.{ascending-apart, answer-permuted, permuted-enter, permuted-fair}
+use Rattle.claims.specs.PriceOrder.{Permuted, Apart}
 use Rattle.claims.specs.Laws.Told.{Told, link-told}
 
 -- the entries es of call c bring the table h into step with the zone z, and each strike among them is fair
@@ -61,19 +61,18 @@ module _ (c : Call) where
 
 -- opening, events, ending
 call-fed : (z : Zone) (c : Call) (h : HistoryTable) → numberOn z c ≡ 0 → Good z → InStep z h →
-    Fed c (effect z c .entries) (effect z c .zone) (paidInOrOut c h)
+    Fed c (atLots z c .entries) (effect z c .zone) (paidInOrOut c h)
 call-fed z c h q G I =
-    let d = effect z c in
-    let T : Taken z c d = taken z c q in
+    let es : List Entry = atLots z c .entries in
+    let T : Taken z c = taken z c q in
     let J : InStep (opening c z) (paidInOrOut c h) = opening-kept c z h (G .sized) I (T .passed) in
-    let K : Fed c (d .entries) (T .last) (paidInOrOut c h) = good-walk (feeds c) (T .chain) (opening-good z G c (T .passed)) (paidInOrOut c h) J in
-    let E : InStep (ending c (T .last)) (enterAll c (d .entries) (paidInOrOut c h)) = ending-kept c (T .last) _ (K .inStep) in
-    record { inStep = subst (λ (y : Zone). InStep y (enterAll c (d .entries) (paidInOrOut c h))) (sym (T .zone)) E; fair = K .fair }
+    let K : Fed c es (T .last) (paidInOrOut c h) = good-walk (feeds c) (T .chain) (opening-good z G c (T .passed)) (paidInOrOut c h) J in
+    let E : InStep (ending c (T .last)) (enterAll c es (paidInOrOut c h)) = ending-kept c (T .last) _ (K .inStep) in
+    record { inStep = subst (λ (y : Zone). InStep y (enterAll c es (paidInOrOut c h))) (sym (T .zone)) E; fair = K .fair }
 
--- a quote's entries in any order
-ordered-fed : {c : Call} {es fs : List Entry} {z : Zone} {h : HistoryTable} → AnswerOrder c es fs → Apart es → Fed c es z h → Fed c fs z h
-ordered-fed asRuled A K = K
-ordered-fed {c} {es} {fs} {z} {h} (anyOrder e p) A K =
+-- the history does not depend on the order of a quote's entries
+ordered-fed : {c : Call} {es fs : List Entry} {z : Zone} {h : HistoryTable} → Permuted es fs → Apart es → Fed c es z h → Fed c fs z h
+ordered-fed {c} {es} {fs} {z} {h} p A K =
     record { inStep = subst (InStep z) (permuted-enter c p A h) (K .inStep); fair = permuted-fair c p A h (K .fair) }
 
 -- ── Every list of calls ────────────────────────────────────────────────────────────────────────
@@ -90,14 +89,17 @@ pub after-refused : {list : List (Call × Reply)} {z : Zone} (c : Call) (n : ℕ
 unfolding history EachStrikeOwnAct
 after-refused c n A = record { sized = A .sized; valid = A .valid; inStep = A .inStep; fair = (tt, A .fair) }
 
-pub after-accepted : {list : List (Call × Reply)} {z : Zone} (c : Call) (es : List Entry) → After list z → numberOn z c ≡ 0
-    → AnswerOrder c (effect z c .entries) es → After ((c, acceptedWith es) ∷ list) (effect z c .zone)
-unfolding history EachStrikeOwnAct
-after-accepted {list} {z} c es A q p =
+pub after-accepted : {list : List (Call × Reply)} {z : Zone} (c : Call) → After list z → numberOn z c ≡ 0
+    → After ((c, acceptedWith (effect z c .entries)) ∷ list) (effect z c .zone)
+unfolding history EachStrikeOwnAct effect
+after-accepted {list} {z} c A q =
     let d = effect z c in
-    let W : Kept d = keeps-valid z c (A .sized) (A .valid) q in
-    let F = call-fed z c (history list) q (good-of z (A .sized) (A .valid)) (A .inStep) in
-    let K : Fed c es (d .zone) (paidInOrOut c (history list)) = ordered-fed p (ascending-apart 1 (d .entries) (W .ascending)) F in
+    let es : List Entry = atLots z c .entries in
+    let W : Kept (c .kind) d = keeps-valid z c (A .sized) (A .valid) q in
+    let G : Good z = good-of z (A .sized) (A .valid) in
+    let F : Fed c es (d .zone) (paidInOrOut c (history list)) = call-fed z c (history list) q G (A .inStep) in
+    let apart : Apart es = ascending-apart 1 es (lots-ordered z c G (taken z c q) .ascending) in
+    let K : Fed c (d .entries) (d .zone) (paidInOrOut c (history list)) = ordered-fed (answer-permuted (c .kind) es) apart F in
     record { sized = W .sized; valid = W .valid; inStep = K .inStep; fair = (K .fair, A .fair) }
 
 pub after-fresh : After [] freshZone
