@@ -8,7 +8,7 @@
  * bench LEDGER ROW   one round of one row, to count its instructions: LEDGER is library, gcc or clang
  *
  * A row is a call, the image that it finds and what it returns. A new one is a line of `rows`, and a function that
- * fills its image if neither of the two here will do. An entry of another form is a field more of `ledgers`, and is
+ * fills its image if none of the three here will do. An entry of another form is a field more of `ledgers`, and is
  * called in one_round.
  */
 #define _POSIX_C_SOURCE 200809L
@@ -117,6 +117,19 @@ static void idle(uint8_t *image)
     put_money(image, BIDDER, CRZ_DEPOSIT);
 }
 
+/* a bid on each of 128 lots of one contract, at 64 prices in no order, two bids at each; money in every account */
+static void bid_for(uint8_t *image)
+{
+    unsigned number;
+    fill_accounts(image);
+    for (number = 1; number <= CRZ_RECEIPT_COUNT; number++) {
+        uint8_t *receipt = image + crz_receipt_offset(number);
+        put_receipt(image, number, CRZ_STATE_BID_STANDS);
+        receipt[CRZ_RECEIPT_CONTRACT] = 1;
+        crz_put_u32(receipt + CRZ_RECEIPT_PRICE, PRICE + 5 * (number * 37 % 64));
+    }
+}
+
 /* ── Rows ──────────────────────────────────────────────────────────────────────────────────────── */
 
 struct row {
@@ -132,6 +145,7 @@ struct row {
 static const struct row rows[] = {
     {"quote, busy", busy, CRZ_KIND_QUOTE, 0, 0, 1, PRICE, CRZ_NUMBER_ACCEPTED},
     {"quote, idle", idle, CRZ_KIND_QUOTE, 0, 0, 1, PRICE, CRZ_NUMBER_ACCEPTED},
+    {"quote, 128 strikes", bid_for, CRZ_KIND_QUOTE, 0, 0, 1, PRICE, CRZ_NUMBER_ACCEPTED},
     {"pay in, busy", busy, CRZ_KIND_PAY_IN, 1, 0, 0, 100, CRZ_NUMBER_ACCEPTED},
     {"pay in, idle", idle, CRZ_KIND_PAY_IN, 1, 0, 0, 100, CRZ_NUMBER_ACCEPTED},
     {"limit bid, busy", busy, CRZ_KIND_LIMIT_BID, BIDDER, LOT, 0, PRICE + 5, CRZ_NUMBER_ACCEPTED},

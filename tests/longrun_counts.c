@@ -1,6 +1,7 @@
 /*
  * What the long run has reached. Everything that can occur must occur: a pair of kind and number that never came, an
- * outcome, a contract that nothing was struck at, an amount or a total at its limit.
+ * outcome, a contract that nothing was struck at, strikes of one quote at one price and at several, an amount or a total
+ * at its limit.
  */
 #include "longrun.h"
 
@@ -50,6 +51,10 @@ static unsigned long settled[FULLS], struck[STRIKERS][CRZ_CONTRACT_COUNT + 1], a
 static unsigned long at_total[LIMITS], filled[VERDICTS][LIMITS];
 static unsigned long damaged[VERDICTS], stray[VERDICTS];
 
+/* quotes that struck two lots or more; with two at one price, at different prices, both; quotes that struck every lot */
+enum { SEVERAL, AT_ONE_PRICE, AT_DIFFERENT_PRICES, AT_BOTH, EVERY_LOT, QUOTES };
+static unsigned long quotes[QUOTES];
+
 /* ── Counting ──────────────────────────────────────────────────────────────────────────────────── */
 
 /* the place of a kind in a list, or the list's length */
@@ -82,9 +87,24 @@ static void count_entry(const struct made *made, uint8_t kind, const struct crz_
     }
 }
 
+/* an accepted quote; strikes at one price are listed side by side */
+static void count_quote(const uint8_t *answer, uint32_t struck)
+{
+    uint32_t i, equal = 0;
+    for (i = 1; i < struck && i < CRZ_ENTRY_COUNT; i++)
+        equal += crz_get_entry(answer, i - 1).number == crz_get_entry(answer, i).number;
+    quotes[SEVERAL] += struck > 1;
+    quotes[AT_ONE_PRICE] += equal > 0;
+    quotes[AT_DIFFERENT_PRICES] += struck > equal + 1;
+    quotes[AT_BOTH] += equal > 0 && struck > equal + 1;
+    quotes[EVERY_LOT] += struck == CRZ_RECEIPT_COUNT;
+}
+
 static void count_entries(const struct made *made, uint8_t kind)
 {
     uint32_t i, entries = crz_get_answer(made->answer).count;
+    if (kind == CRZ_KIND_QUOTE)
+        count_quote(made->answer, entries);
     if (entries > most_entries)
         most_entries = entries;
     for (i = 0; i < entries && i < CRZ_ENTRY_COUNT; i++) {
@@ -188,6 +208,8 @@ static void show_strikes(void)
     show_heads("contract of a strike", 1, CRZ_CONTRACT_COUNT + 1);
     for (i = 0; i < STRIKERS; i++)
         show_row(kinds[strikers[i]].name, struck[i] + 1, "++++++++");
+    printf("%-22s %6s %6s %6s %6s %6s\n", "strikes of one quote", "two", "equal", "differ", "both", "all");
+    show_row("quotes", quotes, "+++++");
 }
 
 static void show_amounts(void)

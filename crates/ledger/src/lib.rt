@@ -1,4 +1,4 @@
-// A second ledger of the cotton receipt zone, for long runs beside the library (01 Holding 6). It is written from document 01 alone;
+// A second ledger of the cotton receipt zone, for long runs beside the library (01 Holding 6). It is written from documents 01 and 02 alone;
 // of the library it uses nothing.
 //
 // It is built another way on purpose. The zone is a book of columns of numbers. Of an account it keeps one number, its wealth: free and
@@ -28,9 +28,10 @@ pub fn call(image: &mut [u8], record: &[u8], answer: &mut [u8]) -> u64 {
     let mut book: Book = empty_book();
     let number = judge(&mut book, image, record);
     if number == 0 {
-        ledger_kinds::perform(&mut book, read_call(record));
+        let c = read_call(record);
+        ledger_kinds::perform(&mut book, c);
         write_image(&mut book, image);
-        answers::accept(&book, answer);
+        answers::accept(&book, c.kind, answer);
     } else {
         answers::refuse(answer, number);
     }

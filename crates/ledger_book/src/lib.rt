@@ -80,6 +80,7 @@ pub use places::FROZEN;
 pub use places::IMAGE_COLUMNS_END;
 pub use places::IMAGE_LENGTH;
 pub use places::LOT;
+pub use places::NUMBER;
 pub use places::OUTCOME;
 pub use places::OWNER;
 pub use places::PAGE_LENGTH;

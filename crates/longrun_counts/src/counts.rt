@@ -1,5 +1,8 @@
 // What a call has reached.
 use crate::rows::line;
+use crate::tally::AT_BOTH;
+use crate::tally::AT_DIFFERENT_PRICES;
+use crate::tally::AT_ONE_PRICE;
 use crate::tally::BID_ON;
 use crate::tally::CALLS;
 use crate::tally::DIFFERENCES;
@@ -30,6 +33,7 @@ use ledger_book::CONTRACT;
 use ledger_book::ENTRY_COUNT_END;
 use ledger_book::MOST_AMOUNT;
 use ledger_book::MOST_TOTAL;
+use ledger_book::NUMBER;
 use ledger_book::OUTCOME;
 use ledger_book::Page;
 use ledger_book::RECEIPTS;
@@ -60,11 +64,42 @@ fn count_entries(answer: &Page, tally: &mut Tally) {
 
 // ── Contracts ───────────────────────────────────────────────────────────────────────────────────
 
-fn count_quote(contract: u64, struck: u64, tally: &mut Tally) {
+// How many strikes have the price of the one listed before them.
+fn strikes_at_one_price(answer: &Page) -> u64 {
+    let entries = entries_in(answer);
+    let mut equal: u64 = 0;
+    for k in 2..RECEIPTS + 1 {
+        let same = page_cell(answer, NUMBER, k) == page_cell(answer, NUMBER, minus(k, 1));
+        if (k <= entries) & same {
+            equal = plus(equal, 1);
+        }
+    }
+    equal
+}
+
+// A quote that struck two lots or more.
+fn count_several(contract: u64, answer: &Page, tally: &mut Tally) {
+    let equal = strikes_at_one_price(answer);
+    let one_price = equal != 0;
+    let different = plus(equal, 1) < entries_in(answer);
+    add(tally, of_contract(contract, SEVERAL_STRUCK), 1);
+    if one_price {
+        add(tally, of_contract(contract, AT_ONE_PRICE), 1);
+    }
+    if different {
+        add(tally, of_contract(contract, AT_DIFFERENT_PRICES), 1);
+    }
+    if one_price & different {
+        add(tally, of_contract(contract, AT_BOTH), 1);
+    }
+}
+
+fn count_quote(contract: u64, answer: &Page, tally: &mut Tally) {
+    let struck = entries_in(answer);
     add(tally, of_contract(contract, QUOTED), 1);
     add(tally, of_contract(contract, STRUCK), struck);
     if struck > 1 {
-        add(tally, of_contract(contract, SEVERAL_STRUCK), 1);
+        count_several(contract, answer, tally);
     }
 }
 
@@ -85,7 +120,7 @@ fn count_contract(q: Request, image: &Page, answer: &Page, tally: &mut Tally) {
         4 => add(tally, of_contract(q.contract, LISTED), 1),
         6 => count_bid(of_lot, outcome, tally),
         7 => count_bid(of_lot, outcome, tally),
-        9 => count_quote(q.contract, entries_in(answer), tally),
+        9 => count_quote(q.contract, answer, tally),
         _ => {}
     }
 }

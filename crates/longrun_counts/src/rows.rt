@@ -133,7 +133,7 @@ fn print_pairs(tally: &Tally) {
 fn print_entries(tally: &Tally) {
     io::write_all(
         1,
-        b"contracts: listings, bids, quotes, lots struck, quotes that struck two or more\n",
+        b"contracts: listings, bids, quotes, lots struck, quotes that struck two or more, of these at one price, at different prices, at both\n",
     );
     rows(
         tally,

@@ -16,7 +16,8 @@ const PAIRS: u64 = 0;
 // Entries by outcome, from 1 on.
 pub const OUTCOMES: u64 = PAIRS + KIND_ROWS * NUMBERS;
 
-// Of each contract: listings, bids, quotes, lots struck, and quotes that struck two lots or more, all accepted.
+// Of each contract: listings, bids, quotes, lots struck, and quotes that struck two lots or more, all accepted. Of these quotes: those with
+// two strikes at one price, those with strikes at different prices, and those with both.
 const CONTRACT_COUNTS: u64 = OUTCOMES + LAST_OUTCOME + 1;
 
 pub const LISTED: u64 = 0;
@@ -29,7 +30,13 @@ pub const STRUCK: u64 = 3;
 
 pub const SEVERAL_STRUCK: u64 = 4;
 
-pub const COUNTS_OF_CONTRACT: u64 = 5;
+pub const AT_ONE_PRICE: u64 = 5;
+
+pub const AT_DIFFERENT_PRICES: u64 = 6;
+
+pub const AT_BOTH: u64 = 7;
+
+pub const COUNTS_OF_CONTRACT: u64 = 8;
 
 // Of each limit, for the number before it, itself and the next: calls, those accepted, those refused by the limit's number.
 const LIMITS: u64 = CONTRACT_COUNTS + (CONTRACTS + 1) * COUNTS_OF_CONTRACT;

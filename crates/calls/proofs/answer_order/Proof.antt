@@ -1,6 +1,7 @@
 -- A quote, or any other kind.
 use mathlib.Core.Bool.{true, false}
 use mathlib.Core.Path.{_≡_, refl, sym, _∙_}
+use native.Mathlib.Omega.{arith}
 use borrow.Author.Needs.{needs}
 use borrow.Author.Tests.{eq-eqb, ne-eqb}
 use lib.Dec.{eqb}
@@ -15,13 +16,13 @@ by-price-requires c κs = search needs
 returns : tie.Need-returns
 unfolding answerOrder
 returns c =
-    let q : eqb (c .before .before .args .c .kind) 9 ≡ true = eq-eqb _ 9 (c .before .if1 .taken) in
+    let q : eqb (c .before .before .args .c .kind) 9 ≡ true = eq-eqb (c .before .before .args .c .kind) 9 (omega (arith, c .before .if1 .taken)) in
     (c .by-price .ensures .0, c .by-price .ensures .1 ∙ rw q)
 
 returns-2 : tie.Need-returns-2
 unfolding answerOrder
 returns-2 c =
-    let q : eqb (c .before .args .c .kind) 9 ≡ false = ne-eqb _ 9 (c .if1 .left) in
+    let q : eqb (c .before .args .c .kind) 9 ≡ false = ne-eqb (c .before .args .c .kind) 9 (omega (arith, c .if1 .left)) in
     (refl, sym (take-append-drop (c .before .args .es .count) (c .before .args .es .all)) ∙ rw q)
 
 pub answer-order-spec : {M : Type 1} → statement M
