@@ -36,6 +36,7 @@ fn sweeps(c: Call) -> bool
     (kind == KIND_QUOTE) | (kind == KIND_MORNING_CLOSE) | (kind == KIND_DAY_CLOSE)
 }
 
+// Lots that the call does not concern are passed over.
 fn sweep_lots(image: &mut [u8], c: Call) -> Entries
     requires { ⌜ Encoded (now image) × (validZone (decode (now image)) ≡ true) × (sweeps (c .kind) ≡ true) ⌝ }
     ensures { λ r. ⌜ (now (image .exit) ≡ encode (sweep (ruleAt c) receiptCount 1 (decode (now (image .entry))) .zone)) × (r ≡ entryArray (sweep (ruleAt c) receiptCount 1 (decode (now (image .entry))) .entries)) ⌝ }
@@ -49,7 +50,7 @@ fn sweep_lots(image: &mut [u8], c: Call) -> Entries
     };
     let mut count: usize = 0;
     let mut entries = [none; RECEIPTS];
-    let mut i: usize = 0;
+    let mut i = lots::next_concerned(image, c, 0);
     while i < RECEIPTS {
         let at = lots::visit(image, c, (i as u8) + 1);
         match at {
@@ -60,7 +61,7 @@ fn sweep_lots(image: &mut [u8], c: Call) -> Entries
             }
             AtLot::NoEvent => {}
         }
-        i += 1;
+        i = lots::next_concerned(image, c, i + 1);
     }
     Entries {
         count: count,

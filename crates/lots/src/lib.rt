@@ -1,12 +1,13 @@
 // A call at one lot of an image: what its rule reads, and what it does there.
 ghost use mathlib.Core.Bool.{true};
 ghost use mathlib.Core.Path.{_≡_};
-ghost use Prim.Native.Nat.{_≤_};
+ghost use Prim.Native.Nat.{ℕ, _+_, _≤_, _<_};
 ghost use lib.ListN.{length};
 ghost use Rattle.units.specs.Ranges.{contractCount, receiptCount};
 ghost use Rattle.zone.specs.Valid.{recordValid, validZone};
 ghost use Rattle.image.specs.Image.{validImage, decode, Encoded, Fits};
 ghost use Rattle.image.specs.Layout.{imageLength};
+ghost use Rattle.rules.specs.declared.AtLot.the-variants.{NoEvent};
 ghost use Rattle.rules.specs.Effects.{sweeps, ruleAt};
 ghost use Rattle.rules.specs.Steps.{stepOn};
 ghost use Rattle.rules.specs.View.{viewOf, recordOfReceipt, askOf, freeOf};
@@ -20,6 +21,7 @@ use rules::Step;
 use rules::View;
 use units::Fen;
 use units::Kilograms;
+use units::RECEIPTS;
 use units::YuanPerTonne;
 use zone::Lot;
 use zone::Receipt;
@@ -123,15 +125,27 @@ fn concerns(c: Call, state: u8, contract: u8) -> bool
     }
 }
 
-// What the call does at lot n; most lots are passed over.
+// From lot k on, the first that the call concerns, or the number of lots where it concerns none. Lots count from 0 here.
+pub fn next_concerned(image: &[u8], c: Call, k: usize) -> usize
+    requires { ⌜ Encoded (now image) × (validZone (decode (now image)) ≡ true) × (sweeps (c .kind) ≡ true) × (k ≤ receiptCount) ⌝ }
+    ensures { λ r. ⌜ (k ≤ r) × (r ≤ receiptCount) × ((j : ℕ) → k ≤ j → j < r → ruleAt c (decode (now (image .entry))) (j + 1) ≡ NoEvent) ⌝ }
+{
+    let mut i = k;
+    while i < RECEIPTS {
+        if concerns(c, image::state_at(image, i), image::contract_at(image, i)) {
+            return i;
+        }
+        i += 1;
+    }
+    i
+}
+
+// What the call does at lot n.
 pub fn visit(image: &[u8], c: Call, n: u8) -> AtLot
     requires { ⌜ Encoded (now image) × (validZone (decode (now image)) ≡ true) × (sweeps (c .kind) ≡ true) × (1 ≤ n) × (n ≤ receiptCount) ⌝ }
     ensures { λ x. ⌜ x ≡ ruleAt c (decode (now (image .entry))) n ⌝ }
 {
     let k = (n - 1) as usize;
-    if !concerns(c, image::state_at(image, k), image::contract_at(image, k)) {
-        return AtLot::NoEvent;
-    }
     let f = image::record_at(image, k);
     steps::rule_of(view_of(image, c.account, f), c, n, f)
 }

@@ -22,6 +22,7 @@ use zone::Listing;
 use zone::Lot;
 use zone::Receipt;
 use zone::Record;
+use zone::STATE_BID_STANDS;
 use zone::Trade;
 
 // ── Registration and listings ───────────────────────────────────────────────────────────────────
@@ -160,17 +161,10 @@ pub fn quote_at(v: View, c: Call, n: u8, f: Record) -> AtLot
     requires { ⌜ Ready v f ⌝ }
     ensures { λ x. ⌜ x ≡ quoteLot v c n f ⌝ }
 {
-    let r = zone::receipt_of(f);
-    let lot = r.lot;
-    match lot {
-        Lot::BidStands(l, b) => {
-            let price = b.price;
-            if (l.contract == c.contract) & meets_ask(v, price) {
-                strike(v, n, f, b)
-            } else {
-                AtLot::NoEvent
-            }
-        }
-        _ => AtLot::NoEvent,
+    let price = f.price;
+    if (f.state == STATE_BID_STANDS) & (f.contract == c.contract) & meets_ask(v, price) {
+        strike(v, n, f, zone::bid_of(f))
+    } else {
+        AtLot::NoEvent
     }
 }

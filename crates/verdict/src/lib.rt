@@ -1,15 +1,16 @@
 // Whether bytes are a valid image.
 ghost use mathlib.Core.Path.{_≡_};
-ghost use mathlib.Core.Bool.{cond};
-ghost use Prim.Native.Nat.{_+_, _≤_, min};
+ghost use mathlib.Core.Bool.{true, _&&_};
+ghost use mathlib.Core.List.{[]};
+ghost use Prim.Native.Nat.{_+_, _≤_, _<_};
+ghost use lib.Dec.{eqb};
 ghost use lib.ListN.{length};
-ghost use Rattle.units.specs.Payments.{fen};
-ghost use Rattle.units.specs.Ranges.{moneyLimit};
-ghost use Rattle.zone.specs.Held.{holdOf};
+ghost use Rattle.units.specs.Ranges.{accountCount, receiptCount, moneyLimit};
+ghost use Rattle.zone.specs.Held.{allMoney};
 ghost use Rattle.zone.specs.Valid.{recordValid, askOk, all};
-ghost use Rattle.image.specs.Layout.{imageLength, headerOk, asksIn, accountsIn, recordsIn};
+ghost use Rattle.image.specs.Layout.{imageLength, receiptLength, headerOk, receiptRun, recordIn, asksIn, accountsIn, recordsIn};
 ghost use Rattle.image.specs.Image.{validImage};
-ghost use Rattle.verdict.specs.Sums.{noHold, heldSums, moneyUpTo, frozenMatches};
+ghost use Rattle.verdict.specs.Sums.{firstRecords, heldSums, frozenMatches};
 use image::ACCOUNT_COUNT_PLACE;
 use image::ACCOUNT_START_PLACE;
 use image::CONTRACT_COUNT_PLACE;
@@ -23,21 +24,20 @@ use image::HEADER_RECEIPTS;
 use image::IMAGE_LENGTH;
 use image::PHASE_PLACE;
 use image::RECEIPT_COUNT_PLACE;
+use image::RECEIPT_LENGTH;
+use image::RECEIPT_START;
 use image::RECEIPT_START_PLACE;
 use units::ACCOUNTS;
 use units::CONTRACTS;
-use units::Fen;
 use units::LAST_DAY;
 use units::MONEY_LIMIT;
 use units::RECEIPTS;
-use zone::Hold;
-use zone::Record;
 
 // One place for each account, and place 0 for nobody.
 const PLACES: usize = ACCOUNTS + 1;
 
-// One fen above the limit: what a sum that passes the limit is cut to.
-const LIMIT_PLUS_ONE: u64 = MONEY_LIMIT + 1;
+// 2^50, above the limit of all money. Amounts are added up below and above it apart, so that no content of an image wraps a sum.
+const PART: u64 = 1125899906842624;
 
 // The zero bytes behind the phase.
 const FIRST_ZERO: usize = PHASE_PLACE + 1;
@@ -77,87 +77,88 @@ fn asks_ok(image: &[u8]) -> bool
     ok
 }
 
-// The sum, cut at one fen above the limit: no content of an image wraps it.
-fn add_up_to(a: Fen, b: Fen) -> Fen
-    requires { ⌜ a .0 ≤ moneyLimit + 1 ⌝ }
-    ensures { λ r. ⌜ r ≡ fen (min (a .0 + b .0) (moneyLimit + 1)) ⌝ }
+// ── The records ─────────────────────────────────────────────────────────────────────────────────
+
+fn owner_at(image: &[u8], k: usize) -> u8
+    requires { ⌜ (length (now image) ≡ imageLength) × (k < receiptCount) ⌝ }
+    ensures { λ r. ⌜ r ≡ recordIn (receiptRun (now (image .entry)) k) .owner ⌝ }
 {
-    if LIMIT_PLUS_ONE - a.0 < b.0 {
-        return Fen(LIMIT_PLUS_ONE);
+    image[RECEIPT_START + k * RECEIPT_LENGTH]
+}
+
+// A record without an owner is valid if it is all zeros. They are read by eight bytes, which is quicker than field by field.
+fn all_zero(s: &[u8]) -> bool
+    requires { ⌜ (length (now s) ≡ receiptLength) × (recordIn (now s) .owner ≡ 0) ⌝ }
+    ensures { λ r. ⌜ r ≡ recordValid (recordIn (now (s .entry))) ⌝ }
+{
+    (wire::get_u64(s, 0) == 0)
+        & (wire::get_u64(s, 8) == 0)
+        & (wire::get_u64(s, 16) == 0)
+        & (wire::get_u64(s, 24) == 0)
+}
+
+fn blank_at(image: &[u8], k: usize) -> bool
+    requires { ⌜ (length (now image) ≡ imageLength) × (k < receiptCount) × (recordIn (receiptRun (now image) k) .owner ≡ 0) ⌝ }
+    ensures { λ r. ⌜ r ≡ recordValid (recordIn (receiptRun (now (image .entry)) k)) ⌝ }
+{
+    let at = RECEIPT_START + k * RECEIPT_LENGTH;
+    let end = at + RECEIPT_LENGTH;
+    all_zero(&image[at..end])
+}
+
+// Whether record k is valid; if so, what its lot holds is added to the sum of its account.
+fn judge_record(image: &[u8], k: usize, sums: &mut [u64]) -> bool
+    requires { ⌜ (length (now image) ≡ imageLength) × (k < receiptCount) × (all recordValid (firstRecords k (now image)) ≡ true) × (now sums ≡ heldSums (firstRecords k (now image))) ⌝ }
+    ensures { λ r. ⌜ (r ≡ recordValid (recordIn (receiptRun (now (image .entry)) k))) × (r ≡ true → now (sums .exit) ≡ heldSums (firstRecords (k + 1) (now (image .entry)))) ⌝ }
+{
+    if owner_at(image, k) == 0 {
+        return blank_at(image, k);
     }
-    Fen(a.0 + b.0)
-}
-
-// All money of the accounts, up to the limit.
-fn money_in(image: &[u8]) -> Fen
-    requires { ⌜ length (now image) ≡ imageLength ⌝ }
-    ensures { λ r. ⌜ r ≡ fen (moneyUpTo (accountsIn (now (image .entry)))) ⌝ }
-{
-    let mut money = Fen(0);
-    let mut i: usize = 0;
-    while i < ACCOUNTS {
-        let a = image::account_at(image, i);
-        let sum = add_up_to(add_up_to(money, a.free), a.frozen);
-        money = sum;
-        i += 1;
+    let r = image::record_at(image, k);
+    if !validity::record_ok(r) {
+        return false;
     }
-    money
+    let h = validity::hold_of(r);
+    let from = h.from as usize;
+    sums[from] = sums[from] + h.fen.0;
+    true
 }
 
-// What a record's lot holds; nothing where the record is not valid.
-fn hold_in(r: Record, ok: bool) -> Hold
-    requires { ⌜ ok ≡ recordValid r ⌝ }
-    ensures { λ x. ⌜ x ≡ cond (recordValid r) (holdOf r) noHold ⌝ }
+// One walk over the records, up to one that is not valid: whether all are, and what the lots hold from each account. Place 0 of the
+// sums is nobody's.
+fn judge_records(image: &[u8], sums: &mut [u64]) -> bool
+    requires { ⌜ (length (now image) ≡ imageLength) × (now sums ≡ heldSums []) ⌝ }
+    ensures { λ r. ⌜ (r ≡ all recordValid (recordsIn (now (image .entry)))) × (r ≡ true → now (sums .exit) ≡ heldSums (recordsIn (now (image .entry)))) ⌝ }
 {
-    if ok {
-        validity::hold_of(r)
-    } else {
-        Hold {
-            from: 0,
-            fen: Fen(0),
-        }
-    }
-}
-
-pub struct Records {
-    pub ok: bool,
-    // what the lots hold from each account; place 0 is nobody's
-    pub sums: [Fen; PLACES],
-}
-
-// One walk over the records: whether all are valid, and what the lots hold from each account.
-fn judge_records(image: &[u8]) -> Records
-    requires { ⌜ length (now image) ≡ imageLength ⌝ }
-    ensures { λ r. ⌜ (r .ok ≡ all recordValid (recordsIn (now (image .entry)))) × (r .sums ≡ heldSums (recordsIn (now (image .entry)))) ⌝ }
-{
-    let mut sums = [Fen(0); PLACES];
-    let mut ok = true;
     let mut i: usize = 0;
     while i < RECEIPTS {
-        let r = image::record_at(image, i);
-        let good = validity::record_ok(r);
-        let h = hold_in(r, good);
-        let from = h.from as usize;
-        sums[from] = Fen(sums[from].0 + h.fen.0);
-        ok = ok & good;
+        if !judge_record(image, i, sums) {
+            return false;
+        }
         i += 1;
     }
-    Records { ok: ok, sums: sums }
+    true
 }
 
-// Whether each frozen is what the lots hold from that account.
-fn frozen_matches(image: &[u8], sums: [Fen; PLACES]) -> bool
-    requires { ⌜ length (now image) ≡ imageLength ⌝ }
-    ensures { λ r. ⌜ r ≡ frozenMatches (accountsIn (now (image .entry))) sums ⌝ }
+// ── The accounts ────────────────────────────────────────────────────────────────────────────────
+
+// Whether each frozen is what the lots hold from that account, and the total is all money.
+fn accounts_ok(image: &[u8], sums: &[u64], total: u64) -> bool
+    requires { ⌜ (length (now image) ≡ imageLength) × (length (now sums) ≡ accountCount + 1) × (total ≤ moneyLimit) ⌝ }
+    ensures { λ r. ⌜ r ≡ frozenMatches (accountsIn (now (image .entry))) (now (sums .entry)) && eqb total (allMoney (accountsIn (now (image .entry)))) ⌝ }
 {
-    let mut ok = true;
+    let mut frozen = true;
+    let mut low: u64 = 0;
+    let mut high: u64 = 0;
     let mut i: usize = 0;
     while i < ACCOUNTS {
         let a = image::account_at(image, i);
-        ok = ok & (a.frozen.0 == sums[i + 1].0);
+        frozen = frozen & (a.frozen.0 == sums[i + 1]);
+        low += a.free.0 % PART + a.frozen.0 % PART;
+        high += a.free.0 / PART + a.frozen.0 / PART;
         i += 1;
     }
-    ok
+    frozen & (high == 0) & (low == total)
 }
 
 // The verdict on any bytes.
@@ -167,17 +168,18 @@ pub fn image_ok(image: &[u8]) -> bool
     if image.len() != IMAGE_LENGTH {
         return false;
     }
-    let header = header_ok(image);
+    let total = image::total_in(image).0;
+    if MONEY_LIMIT < total {
+        return false;
+    }
+    let mut sums: [u64; PLACES] = [0; PLACES];
+    if !judge_records(image, &mut sums) {
+        return false;
+    }
     let day = image::day_in(image);
-    let total = image::total_in(image);
-    let records = judge_records(image);
-    let sums = records.sums;
-    let books = (1 <= day)
+    header_ok(image)
+        & (1 <= day)
         & (day <= LAST_DAY)
         & asks_ok(image)
-        & records.ok
-        & frozen_matches(image, sums)
-        & (total.0 == money_in(image).0)
-        & (total.0 <= MONEY_LIMIT);
-    header & books
+        & accounts_ok(image, &sums, total)
 }

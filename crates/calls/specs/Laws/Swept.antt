@@ -5,6 +5,7 @@ use mathlib.Core.List.{List, [], _∷_, _++_, append-assoc, append-nil}
 use mathlib.Core.Path.{_≡_, refl, sym, ap, _∙_, subst}
 use Prim.Native.Nat.{ℕ, zero, suc, _+_, _-_, _≤_, _<_}
 use native.Mathlib.Numerals.{add-one}
+use native.Mathlib.Decide.{ℕ-discrete}
 use native.Mathlib.Omega.{arith}
 use lib.ListN.{length, set, replicate, length-append}
 use lib.Seq.{set-append-seam}
@@ -52,6 +53,20 @@ module _ (rule : Zone → ℕ → AtLot) where
       let s = rule (o .zone) k in
       ap (join f) (sweep-more more (suc n) k (f .zone) (omega arith))
       ∙ ap (listing (afterLot (o .zone) s .zone)) (sym (append-assoc (f .entries) (o .entries) (afterLot (o .zone) s .entries)))
+
+  -- lots at which the rule has no event leave all as it was
+  pub sweep-past : (i r : ℕ) (z : Zone) → i ≤ r → ((j : ℕ) → i ≤ j → j < r → rule (sweep rule i 1 z .zone) (j + 1) ≡ NoEvent) → sweep rule r 1 z ≡ sweep rule i 1 z
+  sweep-past i zero z h none = let e : 0 ≡ i = omega arith in ap (λ (k : ℕ). sweep rule k 1 z) e
+  sweep-past i (suc r) z h none = go (ℕ-discrete i (suc r)) (λ p. sweep-past i r z p (λ j a b. none j a (omega arith)))
+    where
+      go : Dec (i ≡ suc r) → (i ≤ r → sweep rule r 1 z ≡ sweep rule i 1 z) → sweep rule (suc r) 1 z ≡ sweep rule i 1 z
+      go (yes e) ih = ap (λ (k : ℕ). sweep rule k 1 z) (sym e)
+      go (no n) ih =
+          let d = sweep rule i 1 z in
+          sweep-more r 1 (r + 1) z (omega arith)
+          ∙ ap (λ (b : Done). further b (rule (b .zone) (r + 1))) (ih (omega arith))
+          ∙ ap (further d) (none r (omega arith) (omega arith))
+          ∙ ap (listing (d .zone)) (append-nil (d .entries))
 
 -- at most one entry a lot
 few : (z : Zone) (s : AtLot) → length (afterLot z s .entries) ≤ 1
