@@ -26,6 +26,7 @@ use rules::KIND_TAKE_OUT;
 use units::Fen;
 use units::RECEIPTS;
 use units::YuanPerTonne;
+use visits::Noted;
 
 // ── All lots in ascending order ─────────────────────────────────────────────────────────────────
 
@@ -52,14 +53,13 @@ fn sweep_lots(image: &mut [u8], c: Call) -> Entries
     let mut entries = [none; RECEIPTS];
     let mut i = lots::next_concerned(image, c, 0);
     while i < RECEIPTS {
-        let at = lots::visit(image, c, (i as u8) + 1);
-        match at {
-            AtLot::Event(e, r) => {
-                events::post(image, e, r);
+        let noted = visits::work_lot(image, c, (i as u8) + 1);
+        match noted {
+            Noted::One(e) => {
                 entries[count] = e;
                 count += 1;
             }
-            AtLot::NoEvent => {}
+            Noted::Nothing => {}
         }
         i = lots::next_concerned(image, c, i + 1);
     }

@@ -75,7 +75,7 @@ fn record_of_receipt(image: &[u8], n: u8) -> Record
     image::record_at(image, k)
 }
 
-fn view_of(image: &[u8], a: u8, f: Record) -> View
+pub fn view_of(image: &[u8], a: u8, f: Record) -> View
     requires { ⌜ (length (now image) ≡ imageLength) × (recordValid f ≡ true) ⌝ }
     ensures { λ v. ⌜ v ≡ viewOf (decode (now (image .entry))) a f ⌝ }
 {

@@ -2,7 +2,8 @@
 ghost use mathlib.Core.Path.{_≡_};
 ghost use Prim.Native.Nat.{_≤_};
 ghost use Rattle.units.specs.Ranges.{mostPrice, lastDay, mostDays};
-ghost use Rattle.rules.specs.Effects.{dueDay, bidStands, bidStruck, meetsAsk, register, listFor, listingEnded, limitBid, marketBid, withdrawBid, quoteLot};
+ghost use Rattle.zone.specs.Record.{recordOf, bidOf};
+ghost use Rattle.rules.specs.Effects.{dueDay, bidStands, struckReceipt, bidStruck, meetsAsk, register, listFor, listingEnded, limitBid, marketBid, withdrawBid, quoteMeets, quoteLot};
 ghost use Rattle.rules.specs.Ready.{Ready};
 use rules::AtLot;
 use rules::Call;
@@ -15,6 +16,7 @@ use rules::OUTCOME_REGISTERED;
 use rules::OUTCOME_STRUCK;
 use rules::View;
 use units::Basis;
+use units::Fen;
 use units::Kilograms;
 use units::YuanPerTonne;
 use zone::Bid;
@@ -23,6 +25,7 @@ use zone::Lot;
 use zone::Receipt;
 use zone::Record;
 use zone::STATE_BID_STANDS;
+use zone::STATE_STRUCK;
 use zone::Trade;
 
 // ── Registration and listings ───────────────────────────────────────────────────────────────────
@@ -155,14 +158,47 @@ pub fn withdraw_bid(n: u8, f: Record) -> AtLot
     )
 }
 
-// A standing bid of the quoted contract that meets the new ask is struck at its own price. Lots of other states and contracts are passed
+// A standing bid of the quoted contract that meets the new ask.
+pub fn quote_meets(v: View, c: Call, f: Record) -> bool
+    ensures { λ x. ⌜ x ≡ quoteMeets v c f ⌝ }
+{
+    let price = f.price;
+    (f.state == STATE_BID_STANDS) & (f.contract == c.contract) & meets_ask(v, price)
+}
+
+// The record of a lot whose standing bid is struck.
+pub fn struck_record(v: View, f: Record) -> Record
+    requires { ⌜ Ready v f ⌝ }
+    ensures { λ x. ⌜ x ≡ recordOf (struckReceipt v f (bidOf f)) ⌝ }
+{
+    let due = due_day(v, f.days);
+    let weight = f.weight;
+    let basis = f.basis;
+    let price = f.price;
+    Record {
+        owner: f.owner,
+        state: STATE_STRUCK,
+        seller: f.seller,
+        buyer: f.buyer,
+        contract: f.contract,
+        days: f.days,
+        due: due,
+        weight: weight,
+        basis: basis,
+        price: price,
+        pending: Fen(0),
+        confirmed: Fen(0),
+        paid: Fen(0),
+    }
+}
+
+// A bid that meets it is struck at its own price. Lots of other states and contracts are passed
 // over before; the record of no receipt, which a quote names, comes here.
 pub fn quote_at(v: View, c: Call, n: u8, f: Record) -> AtLot
     requires { ⌜ Ready v f ⌝ }
     ensures { λ x. ⌜ x ≡ quoteLot v c n f ⌝ }
 {
-    let price = f.price;
-    if (f.state == STATE_BID_STANDS) & (f.contract == c.contract) & meets_ask(v, price) {
+    if quote_meets(v, c, f) {
         strike(v, n, f, zone::bid_of(f))
     } else {
         AtLot::NoEvent

@@ -4,6 +4,7 @@ ghost use Prim.Native.Nat.{_+_, _%_, _≤_, _<_};
 ghost use lib.ListN.{length, take, set};
 ghost use lib.Seq.{sets};
 ghost use Rattle.units.specs.Ranges.{accountCount, receiptCount, contractCount};
+ghost use Rattle.zone.specs.Record.{recordOf, receiptOf};
 ghost use Rattle.zone.specs.Valid.{noAsks};
 ghost use Rattle.zone.specs.Parts.{withClock, withAsks, withAccounts, withReceipts, withTotal};
 ghost use Rattle.image.specs.Layout.{accountLength, receiptLength, pricePlace, recordBytes, accountBytes};
@@ -111,13 +112,17 @@ pub fn no_asks(image: &mut [u8])
     wire::put_zeros(image, CONTRACT_START, CONTRACTS * ASK_LENGTH);
 }
 
+// The record of a receipt, for callers who have it at hand.
+pub fn receipt_record(image: &mut [u8], k: usize, f: Record)
+    requires { ⌜ Encoded (now image) × (k < receiptCount) × (recordOf (receiptOf f) ≡ f) ⌝ }
+    ensures { λ _. ⌜ now (image .exit) ≡ encode (withReceipts (decode (now (image .entry))) (set (decode (now (image .entry)) .receipts) k (receiptOf f))) ⌝ }
+{
+    record_bytes(image, RECEIPT_START + k * RECEIPT_LENGTH, f);
+}
+
 pub fn receipt(image: &mut [u8], k: usize, r: Receipt)
     requires { ⌜ Encoded (now image) × (k < receiptCount) ⌝ }
     ensures { λ _. ⌜ now (image .exit) ≡ encode (withReceipts (decode (now (image .entry))) (set (decode (now (image .entry)) .receipts) k r)) ⌝ }
 {
-    record_bytes(
-        image,
-        RECEIPT_START + k * RECEIPT_LENGTH,
-        zone::record_of(r),
-    );
+    receipt_record(image, k, zone::record_of(r));
 }

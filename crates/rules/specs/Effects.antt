@@ -57,10 +57,11 @@ dueDay v days = cond (v .afternoon && eqb days 0) (v .day + 1) (v .day + days)
 abbrev pub bidStands : ℕ → Record → Bid → AtLot
 bidStands n f b = Event (entryOf n 4 (f .seller) (b .buyer) (b .price .0)) (withLot f (BidStands (listingOf f) b))
 
+abbrev pub struckReceipt : View → Record → Bid → Receipt
+struckReceipt v f b = withLot f (Struck (record { listing = listingOf f; bid = b; due = dueDay v (f .days) }))
+
 abbrev pub bidStruck : View → ℕ → Record → Bid → AtLot
-bidStruck v n f b =
-    Event (entryOf n 6 (f .seller) (b .buyer) (b .price .0))
-    (withLot f (Struck (record { listing = listingOf f; bid = b; due = dueDay v (f .days) })))
+bidStruck v n f b = Event (entryOf n 6 (f .seller) (b .buyer) (b .price .0)) (struckReceipt v f b)
 
 -- the lot's contract has an ask, and it is at or below the price (article 10)
 abbrev pub meetsAsk : View → YuanPerTonne → Bool
@@ -102,9 +103,11 @@ unfoldable pub withdrawBid : ℕ → Record → AtLot
 withdrawBid n f = eventOf n f (Listed (listingOf f)) 5 0
 
 -- 9 quote (01 Calls 12): a standing bid of that contract that meets the ask is struck at its own price (article 10)
+abbrev pub quoteMeets : View → Call → Record → Bool
+quoteMeets v c f = eqb (f .state) 2 && eqb (f .contract) (c .contract) && meetsAsk v (f .price)
+
 unfoldable pub quoteLot : View → Call → ℕ → Record → AtLot
-quoteLot v c n f =
-    cond (eqb (f .state) 2 && eqb (f .contract) (c .contract) && meetsAsk v (f .price)) (bidStruck v n f (bidOf f)) NoEvent
+quoteLot v c n f = cond (quoteMeets v c f) (bidStruck v n f (bidOf f)) NoEvent
 
 -- 10 lodge (01 Calls 13; article 13)
 unfoldable pub lodge : ℕ → Record → AtLot

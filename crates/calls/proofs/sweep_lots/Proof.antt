@@ -1,7 +1,7 @@
 -- The loop: image and entries are those of a sweep through the lots so far.
 use mathlib.Core.List.{List}
-use mathlib.Core.Logic.{_⊎_, ⊎-elim}
-use mathlib.Core.Path.{_≡_, refl, sym, ap, _∙_, subst}
+use mathlib.Core.Logic.{⊎-elim}
+use mathlib.Core.Path.{_≡_, refl, sym, ap, _∙_}
 use Prim.Native.Nat.{ℕ, _+_, _-_, _≤_, _<_}
 use native.Mathlib.Omega.{arith}
 use denote.Ref.{now}
@@ -10,16 +10,15 @@ use Rattle.units.specs.Ranges.{receiptCount}
 use Rattle.zone.specs.declared.Zone.{Zone}
 use Rattle.image.specs.Image.{decode, encode}
 use Rattle.image.specs.Laws.RoundTrip.{length-encode, same-long}
-use Rattle.rules.specs.declared.AtLot.{AtLot}
 use Rattle.rules.specs.Effects.{ruleAt}
-use Rattle.rules.specs.Events.{Done, afterLot, posted, sweep}
-use Rattle.rules.specs.Laws.Chain.{swept}
+use Rattle.rules.specs.Events.{Done, afterLot, sweep}
 use Rattle.rules.specs.Laws.Good.{Good}
-use Rattle.events.specs.Posting.{Postable}
 use Rattle.rules.specs.declared.Entries.{Entries}
 use Rattle.rules.specs.EntryArray.{entryArray}
 use Rattle.lots.specs.Laws.Visits.{good-decode}
-use Rattle.calls.specs.Laws.Good.{Of, bytes-of, visit-posts}
+use Rattle.visits.specs.declared.Noted.{Noted}
+use Rattle.visits.specs.Noted.{notedOf}
+use Rattle.calls.specs.Laws.Good.{Of, bytes-of}
 use Rattle.calls.specs.Laws.Swept.{recorded, sweep-past, good-at, room, next-zone, next-entries, same-entries}
 use borrow.Author.Needs.{needs}
 use Rattle.calls.proofs.sweep_lots.Statement.{statement}
@@ -56,40 +55,39 @@ has-room c =
 
 -- ── The next lot ───────────────────────────────────────────────────────────────────────────────
 
--- image and entries are those of one lot more
-abbrev OneMore : (c : tie.In-loop Inv-loop μ-loop) → List ℕ → Entries → Type 0
-OneMore c s es =
-    let d = sweep (ruleAt (c .before .before .before .before .before .args .c)) (c .before .loop .i + 1) 1 (decode (now (c .before .before .before .before .before .args .image))) in
-    (s ≡ encode (d .zone)) × (es ≡ entryArray (d .entries))
+-- what the lot left
+worked : (c : tie.After-work-lot Inv-loop μ-loop) →
+    (c .work-lot .last .0 ≡ encode (sweep (ruleAt (c .before .before .before .before .before .before .before .args .c)) (c .before .before .before .loop .i + 1) 1 (decode (now (c .before .before .before .before .before .before .before .args .image))) .zone))
+    × (c .work-lot .result ≡ notedOf (ruleAt (c .before .before .before .before .before .before .before .args .c) (zone-so-far (c .before .before)) (c .before .before .before .loop .i + 1)))
+worked c =
+    let H = here (c .before .before) in
+    let rule = ruleAt (c .before .before .before .before .before .before .before .args .c) in (
+      c .work-lot .ensures .0 ∙ ap (λ (z : Zone). encode (afterLot z (rule z (c .before .before .before .loop .i + 1)) .zone)) (H .zone)
+          ∙ ap encode (next-zone (c .before .before .before .before .before .before .before .args .c) _ (c .before .before .before .before .before .before .before .pre .2) (start-good (c .before .before .before .before .before .before .before)) (c .before .before .before .loop .i) (omega arith)),
+      c .work-lot .ensures .1 ∙ ap (λ (z : Zone). notedOf (rule z (c .before .before .before .loop .i + 1))) (H .zone),
+    )
 
--- by what the rule does at the lot, and what the code makes of it
-one-more : (c : tie.In-loop Inv-loop μ-loop) (at : AtLot) → ruleAt (c .before .before .before .before .before .args .c) (zone-so-far c) (c .before .loop .i + 1) ≡ at → (s : List ℕ) (es : Entries)
-    → s ≡ encode (afterLot (zone-so-far c) at .zone) → es ≡ recorded (record { count = c .before .loop .count; all = c .before .loop .entries }) at → OneMore c s es
-one-more c at q s es a b = (
-  a ∙ ap encode (next-zone (c .before .before .before .before .before .args .c) _ (c .before .before .before .before .before .pre .2) (start-good (c .before .before .before .before .before)) (c .before .loop .i) (omega arith) at q),
-  b ∙ ap (λ (e : Entries). recorded e at) (c .before .loop .inv .2) ∙ next-entries (c .before .before .before .before .before .args .c) _ (c .before .before .before .before .before .pre .2) (start-good (c .before .before .before .before .before)) (c .before .loop .i) (omega arith) at q,
-)
-
--- what the rule did at the lot
-visited : (c : tie.After-visit Inv-loop μ-loop) {at : AtLot} → c .visit .result ≡ at → ruleAt (c .before .before .before .before .before .before .before .args .c) (zone-so-far (c .before .before)) (c .before .before .before .loop .i + 1) ≡ at
-visited c q = sym (c .visit .ensures ∙ ap (λ (z : Zone). ruleAt (c .before .before .before .before .before .before .before .args .c) z (c .before .before .before .loop .i + 1)) (here (c .before .before) .zone)) ∙ q
-
--- after the lot
-one-done : (c : tie.At-match-came Inv-loop μ-loop) → OneMore (c .before .before .before) (c .match .image) (record { count = c .match .count; all = c .match .entries })
-one-done c =
-    let o = c .before .before .before in
-    ⊎-elim
-    (λ w.
-    one-more o _ (visited (c .before) (w .1 .given .1)) _ _
-    (w .7 ∙ w .4 .ensures ∙ ap (λ (z : Zone). encode (posted z (w .1 .given .0 .0) (w .1 .given .0 .1 .0))) (here o .zone)) (same-entries (w .8) (w .9)))
-    (λ w. one-more o _ (visited (c .before) (w .1 .given .1)) _ _ (w .2 ∙ c .before .before .before .before .loop .inv .1) (same-entries (w .3) (w .4)))
+-- the entries with what is listed of it
+listed : (c : tie.At-match-came Inv-loop μ-loop) → _≡_ {A = Entries} (record { count = c .match .count; all = c .match .entries })
+    (recorded (record { count = c .before .before .before .before .before .before .loop .count; all = c .before .before .before .before .before .before .loop .entries }) (c .before .before .before .work-lot .result))
+listed c =
+    let so-far : Entries = record { count = c .before .before .before .before .before .before .loop .count; all = c .before .before .before .before .before .before .loop .entries } in
+    ⊎-elim (λ w. same-entries (w .3) (w .4) ∙ ap (recorded so-far) (sym (w .1 .given .1))) (λ w. same-entries (w .2) (w .3) ∙ ap (recorded so-far) (sym (w .1 .given .1)))
     (c .match .came)
 
+-- after the lot
+one-entries : (c : tie.At-match-came Inv-loop μ-loop) → _≡_ {A = Entries} (record { count = c .match .count; all = c .match .entries })
+    (entryArray (sweep (ruleAt (c .before .before .before .before .before .before .before .before .before .before .args .c)) (c .before .before .before .before .before .before .loop .i + 1) 1 (decode (now (c .before .before .before .before .before .before .before .before .before .before .args .image))) .entries))
+one-entries c =
+    let at = notedOf (ruleAt (c .before .before .before .before .before .before .before .before .before .before .args .c) (zone-so-far (c .before .before .before .before .before)) (c .before .before .before .before .before .before .loop .i + 1)) in
+    listed c ∙ ap (recorded _) (worked (c .before .before .before) .1) ∙ ap (λ (es : Entries). recorded es at) (c .before .before .before .before .before .before .loop .inv .2)
+    ∙ next-entries (c .before .before .before .before .before .before .before .before .before .before .args .c) _ (c .before .before .before .before .before .before .before .before .before .before .pre .2) (start-good (c .before .before .before .before .before .before .before .before .before .before)) (c .before .before .before .before .before .before .loop .i) (omega arith)
+
 -- the image is the bytes of the zone after it
-there : (c : tie.At-match-came Inv-loop μ-loop) → Of (c .match .image) (sweep (ruleAt (c .before .before .before .before .before .before .before .before .args .c)) (c .before .before .before .before .loop .i + 1) 1 (decode (now (c .before .before .before .before .before .before .before .before .args .image))) .zone)
+there : (c : tie.After-work-lot Inv-loop μ-loop) → Of (c .work-lot .last .0) (sweep (ruleAt (c .before .before .before .before .before .before .before .args .c)) (c .before .before .before .loop .i + 1) 1 (decode (now (c .before .before .before .before .before .before .before .args .image))) .zone)
 there c =
-    bytes-of _ _ (one-done c .0)
-    (good-at (c .before .before .before .before .before .before .before .before .args .c) _ (c .before .before .before .before .before .before .before .before .pre .2) (start-good (c .before .before .before .before .before .before .before .before)) (c .before .before .before .before .loop .i + 1) (omega arith))
+    bytes-of _ _ (worked c .0)
+    (good-at (c .before .before .before .before .before .before .before .args .c) _ (c .before .before .before .before .before .before .before .pre .2) (start-good (c .before .before .before .before .before .before .before)) (c .before .before .before .loop .i + 1) (omega arith))
 
 next-concerned-requires : tie.Need-next-concerned-requires Inv-loop μ-loop
 next-concerned-requires c κs = (c .before .before .pre .0, c .before .before .pre .1, c .before .before .pre .2, omega arith)
@@ -102,35 +100,26 @@ loop-holds c =
     let e : sweep (ruleAt (c .before .before .before .args .c)) 0 1 z ≡ sweep (ruleAt (c .before .before .before .args .c)) r 1 z = sym (sweep-past (ruleAt (c .before .before .before .args .c)) 0 r z (omega arith) (c .next-concerned .ensures .2)) in
     (c .next-concerned .ensures .1, c .before .before .before .pre .0 ∙ ap (λ (d : Done). encode (d .zone)) e, ap (λ (d : Done). entryArray (d .entries)) e)
 
-cast-visit : tie.Need-cast-visit Inv-loop μ-loop
-cast-visit c = omega arith
+cast-work-lot : tie.Need-cast-work-lot Inv-loop μ-loop
+cast-work-lot c = omega arith
 
-add-visit : tie.Need-add-visit Inv-loop μ-loop
-add-visit c = omega arith
+add-work-lot : tie.Need-add-work-lot Inv-loop μ-loop
+add-work-lot c = omega arith
 
-visit-requires : tie.Need-visit-requires Inv-loop μ-loop
-visit-requires c κs = let H = here (c .before) in (H .encoded, H .valid, c .before .before .before .before .before .before .pre .2, omega arith, omega arith)
+work-lot-requires : tie.Need-work-lot-requires Inv-loop μ-loop
+work-lot-requires c κs = let H = here (c .before) in (H .encoded, H .valid, c .before .before .before .before .before .before .pre .2, omega arith, omega arith)
 
-enum-known-at : tie.Need-enum-known-at Inv-loop μ-loop
-enum-known-at c = search needs
-
-post-requires : tie.Need-post-requires Inv-loop μ-loop
-post-requires c κs =
-    let o = c .before .before .before .before .before .before in
-    let H = here o in (
-      H .encoded,
-      subst (λ (z : Zone). Postable z (c .before .before .at .given .0 .0) (c .before .before .at .given .0 .1 .0)) (sym (H .zone))
-          (visit-posts (good o) (omega arith) (omega arith) (swept (c .before .before .before .before .before .before .before .before .before .before .before .pre .2)) (visited (c .before .before .before .before) (c .before .before .at .given .1))),
-    )
+enum-known-noted : tie.Need-enum-known-noted Inv-loop μ-loop
+enum-known-noted c = search needs
 
 mul-entries : tie.Need-mul-entries Inv-loop μ-loop
-mul-entries c = omega (arith, has-room (c .before .before .before .before .before .before .before .before .before))
+mul-entries c = omega (arith, has-room (c .before .before .before .before .before .before .before))
 
 array-set-from-entries : tie.Need-array-set-from-entries Inv-loop μ-loop
-array-set-from-entries c = has-room (c .before .before .before .before .before .before .before .before .before)
+array-set-from-entries c = has-room (c .before .before .before .before .before .before .before)
 
 add-count : tie.Need-add-count Inv-loop μ-loop
-add-count c = omega (arith, has-room (c .before .before .before .before .before .before .before .before .before))
+add-count c = omega (arith, has-room (c .before .before .before .before .before .before .before))
 
 enum-told : tie.Need-enum-told Inv-loop μ-loop
 enum-told c = search needs
@@ -139,22 +128,22 @@ add-next-concerned : tie.Need-add-next-concerned Inv-loop μ-loop
 add-next-concerned c = omega arith
 
 next-concerned-requires-2 : tie.Need-next-concerned-requires-2 Inv-loop μ-loop
-next-concerned-requires-2 c κs = let T = there (c .before) in (T .encoded, T .valid, c .before .before .before .before .before .before .before .before .before .pre .2, omega arith)
+next-concerned-requires-2 c κs = let T = there (c .before .before .before .before) in (T .encoded, T .valid, c .before .before .before .before .before .before .before .before .before .before .before .pre .2, omega arith)
 
 loop-less : tie.Need-loop-less Inv-loop μ-loop
 loop-less c = omega (arith, c .next-concerned2 .ensures .0, c .next-concerned2 .ensures .1)
 
 loop-again : tie.Need-loop-again Inv-loop μ-loop
 loop-again c =
-    let rule = ruleAt (c .before .before .before .before .before .before .before .before .before .before .args .c) in
-    let z = decode (now (c .before .before .before .before .before .before .before .before .before .before .args .image)) in
-    let i = c .before .before .before .before .before .before .loop .i + 1 in
+    let rule = ruleAt (c .before .before .before .before .before .before .before .before .before .before .before .before .args .c) in
+    let z = decode (now (c .before .before .before .before .before .before .before .before .before .before .before .before .args .image)) in
+    let i = c .before .before .before .before .before .before .before .before .loop .i + 1 in
     let r = c .next-concerned2 .result in
-    let one = one-done (c .before .before) in
+    let T = there (c .before .before .before .before .before) in
     let e : sweep rule i 1 z ≡ sweep rule r 1 z =
     sym (sweep-past rule i r z (c .next-concerned2 .ensures .0)
-    (λ j p q. ap (λ (y : Zone). rule y (j + 1)) (sym (there (c .before .before) .zone)) ∙ c .next-concerned2 .ensures .2 j p q)) in
-    (c .next-concerned2 .ensures .1, one .0 ∙ ap (λ (d : Done). encode (d .zone)) e, one .1 ∙ ap (λ (d : Done). entryArray (d .entries)) e)
+    (λ j p q. ap (λ (y : Zone). rule y (j + 1)) (sym (T .zone)) ∙ c .next-concerned2 .ensures .2 j p q)) in
+    (c .next-concerned2 .ensures .1, worked (c .before .before .before .before .before) .0 ∙ ap (λ (d : Done). encode (d .zone)) e, one-entries (c .before .before) ∙ ap (λ (d : Done). entryArray (d .entries)) e)
 
 same-length : tie.Need-same-length Inv-loop μ-loop
 same-length c =
@@ -177,11 +166,10 @@ sweep-lots-spec =
     μ-loop
     next-concerned-requires
     loop-holds
-    cast-visit
-    add-visit
-    visit-requires
-    enum-known-at
-    post-requires
+    cast-work-lot
+    add-work-lot
+    work-lot-requires
+    enum-known-noted
     mul-entries
     array-set-from-entries
     add-count

@@ -20,10 +20,8 @@ use Rattle.rules.specs.Laws.Fit.{fit-valid}
 use Rattle.rules.specs.Laws.Good.{Good, valid-of}
 use Rattle.rules.specs.Laws.Links.{Linked, linked, link-funded}
 use Rattle.events.specs.Laws.Moved.{encoded}
+use Rattle.visits.specs.Laws.Posts.{good-fits}
 use Rattle.events.specs.Posting.{Postable}
-
-pub good-fits : (z : Zone) → Good z → Fits z
-good-fits z G = valid-fits z (valid-of z G)
 
 -- s is the bytes of the good zone z
 pub record Of (s : List ℕ) (z : Zone) : Type 0 where
@@ -36,14 +34,6 @@ pub bytes-of : (s : List ℕ) (z : Zone) → s ≡ encode z → Good z → Of s 
 bytes-of s z e G =
     let d : decode s ≡ z = ap decode e ∙ decode-fits z (G .sized) (good-fits z G) in
     record { zone = d; encoded = encoded s z e d; valid = rw d (valid-of z G); fits = rw d (good-fits z G) }
-
--- the event of a visited lot can be posted
-pub visit-posts : {c : Call} {z : Zone} {n : ℕ} {e : Entry} {r : Receipt} → Good z → 0 < n → n ≤ receiptCount → Visit c z n
-    → ruleAt c z n ≡ Event e r → Postable z e r
-visit-posts {c} {z} {n} {e} {r} G a h v q =
-    let L : Linked c 0 z n e r = linked n e r a zero-le h v q G in
-    let k : e .lot ≡ n = L .fit .entry .lot in
-    record { fits = good-fits z G; low = rw k a; high = rw k h; valid = fit-valid (L .fit); funded = link-funded L }
 
 -- a day close clears the asks
 pub cleared : (s s′ : List ℕ) → Fits (decode s) → s′ ≡ encode (withAsks (decode s) noAsks) → decode s′ ≡ withAsks (decode s) noAsks

@@ -22,11 +22,14 @@ use Rattle.rules.specs.Laws.Good.{Good}
 use Rattle.rules.specs.Laws.Links.{after-good}
 use Rattle.rules.specs.declared.Entries.{Entries}
 use Rattle.rules.specs.EntryArray.{noEntry, entryArray}
+use Rattle.visits.specs.declared.Noted.{Noted}
+use Rattle.visits.specs.declared.Noted.the-variants.{One, Nothing}
+use Rattle.visits.specs.Noted.{notedOf}
 
 -- the entries that the code has after one step more
-abbrev pub recorded : Entries → AtLot → Entries
-recorded s NoEvent = s
-recorded s (Event e r) = record { count = s .count + 1; all = set (s .all) (s .count) e }
+abbrev pub recorded : Entries → Noted → Entries
+recorded s Nothing = s
+recorded s (One e) = record { count = s .count + 1; all = set (s .all) (s .count) e }
 
 -- what the lots so far did, and one step more
 abbrev further : Done → AtLot → Done
@@ -97,7 +100,7 @@ next-entry l e h =
     ∙ set-append-seam l noEntry (replicate k noEntry) e
     ∙ sym (append-assoc l (e ∷ []) (replicate k noEntry))
 
-recorded-more : (z : Zone) (l : List Entry) (s : AtLot) → length l < receiptCount → recorded (entryArray l) s ≡ entryArray (l ++ afterLot z s .entries)
+recorded-more : (z : Zone) (l : List Entry) (s : AtLot) → length l < receiptCount → recorded (entryArray l) (notedOf s) ≡ entryArray (l ++ afterLot z s .entries)
 unfolding entryArray
 recorded-more z l NoEvent h = rw (append-nil l)
 recorded-more z l (Event e r) h = same-entries (sym (length-append l (e ∷ []))) (next-entry l e h)
@@ -122,17 +125,19 @@ module _ (c : Call) (z : Zone) (all : sweeps (c .kind) ≡ true) (G : Good z) wh
     room = omega (arith, sweep-few (ruleAt c) i 1 z)
 
     -- what the rule does at the next lot
-    module _ (at : AtLot) (q : ruleAt c (so-far .zone) (i + 1) ≡ at) where
-      next : ruleAt c (so-far .zone) (1 + i) ≡ at
-      next = ap (ruleAt c (so-far .zone)) (omega arith) ∙ q
+    abbrev at : AtLot
+    at = ruleAt c (so-far .zone) (i + 1)
 
-      pub next-zone : afterLot (so-far .zone) at .zone ≡ sweep (ruleAt c) (i + 1) 1 z .zone
-      next-zone =
-          ap (λ (s : AtLot). afterLot (so-far .zone) s .zone) (sym next)
-          ∙ rw (add-one i, sweep-more (ruleAt c) i 1 (1 + i) z refl)
+    next : at ≡ ruleAt c (so-far .zone) (1 + i)
+    next = ap (ruleAt c (so-far .zone)) (omega arith)
 
-      pub next-entries : recorded (entryArray (so-far .entries)) at ≡ entryArray (sweep (ruleAt c) (i + 1) 1 z .entries)
-      next-entries =
-          recorded-more (so-far .zone) (so-far .entries) at room
-          ∙ ap (λ (s : AtLot). entryArray (so-far .entries ++ afterLot (so-far .zone) s .entries)) (sym next)
-          ∙ rw (add-one i, sweep-more (ruleAt c) i 1 (1 + i) z refl)
+    pub next-zone : afterLot (so-far .zone) (ruleAt c (so-far .zone) (i + 1)) .zone ≡ sweep (ruleAt c) (i + 1) 1 z .zone
+    next-zone =
+        ap (λ (s : AtLot). afterLot (so-far .zone) s .zone) next
+        ∙ rw (add-one i, sweep-more (ruleAt c) i 1 (1 + i) z refl)
+
+    pub next-entries : recorded (entryArray (so-far .entries)) (notedOf (ruleAt c (so-far .zone) (i + 1))) ≡ entryArray (sweep (ruleAt c) (i + 1) 1 z .entries)
+    next-entries =
+        recorded-more (so-far .zone) (so-far .entries) at room
+        ∙ ap (λ (s : AtLot). entryArray (so-far .entries ++ afterLot (so-far .zone) s .entries)) next
+        ∙ rw (add-one i, sweep-more (ruleAt c) i 1 (1 + i) z refl)

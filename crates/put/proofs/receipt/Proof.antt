@@ -1,40 +1,33 @@
--- The bytes of the record in its place.
-use mathlib.Core.Path.{_∙_}
-use native.Mathlib.Omega.{arith}
+-- The record of the receipt is put, and gives the receipt back.
+use mathlib.Core.Path.{_≡_, sym, ap, _∙_}
 use denote.Ref.{now}
-use Rattle.image.specs.Laws.Places.{receipt-put}
-use Rattle.image.specs.Laws.RoundTrip.{same-long}
-use mathlib.Core.Path.{ap}
-use Prim.Native.Nat.{_+_, _*_}
-use lib.Seq.{sets}
-use Rattle.zone.specs.declared.Record.{Record}
-use Rattle.image.specs.Layout.{receiptLength, receiptStart, recordBytes, receiptBytes}
+use lib.ListN.{set}
+use Rattle.zone.specs.declared.Receipt.{Receipt}
+use Rattle.zone.specs.Laws.Back.{receipt-back}
+use Rattle.zone.specs.Parts.{withReceipts}
+use Rattle.zone.specs.Record.{recordOf, receiptOf}
+use Rattle.image.specs.Image.{decode, encode}
 use borrow.Author.Needs.{needs}
 use Rattle.put.proofs.receipt.Statement.{statement}
 use Rattle.put.proofs.receipt.Tie as tie
 
-mul-record-bytes : tie.Need-mul-record-bytes
-mul-record-bytes c = search needs
-
-add-record-bytes : tie.Need-add-record-bytes
-add-record-bytes c = search needs
+-- the receipt of the record
+back : (c : tie.After-record-of) → receiptOf (c .record-of .result) ≡ c .before .before .before .args .r
+back c = ap receiptOf (c .record-of .ensures) ∙ receipt-back (c .before .before .before .args .r)
 
 record-of-requires : tie.Need-record-of-requires
 record-of-requires c κs = search needs
 
-record-bytes-requires : tie.Need-record-bytes-requires
-record-bytes-requires c κs = omega (arith, same-long _ (c .before .before .before .pre .0))
+receipt-record-requires : tie.Need-receipt-record-requires
+receipt-record-requires c κs = (c .before .before .before .pre .0, c .before .before .before .pre .1, ap recordOf (back (c)) ∙ sym (c .record-of .ensures))
 
 same-length : tie.Need-same-length
 same-length c = search needs
 
 returns : tie.Need-returns
-unfolding receiptBytes
 returns c =
-    let s = now (c .before .before .before .before .before .before .args .image) in
-    c .before .before .record-bytes .ensures
-    ∙ ap (λ (r : Record). sets s (receiptStart + c .before .before .before .before .before .before .args .k * receiptLength) (recordBytes r)) (c .before .before .before .record-of .ensures)
-    ∙ receipt-put s (c .before .before .before .before .before .before .pre .0) (c .before .before .before .before .before .before .args .k) (c .before .before .before .before .before .before .args .r) (c .before .before .before .before .before .before .pre .1)
+    let z = decode (now (c .before .before .before .before .before .before .args .image)) in
+    c .before .before .receipt-record .ensures ∙ ap (λ (r : Receipt). encode (withReceipts z (set (z .receipts) (c .before .before .before .before .before .before .args .k) r))) (back (c .before .before .before))
 
 pub receipt-spec : {M : Type 1} → statement M
-receipt-spec = tie.close (tie.spec mul-record-bytes add-record-bytes record-of-requires record-bytes-requires same-length returns)
+receipt-spec = tie.close (tie.spec record-of-requires receipt-record-requires same-length returns)

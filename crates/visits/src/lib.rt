@@ -1,0 +1,69 @@
+// A lot that a call through all lots comes by: what the call does there, in the image.
+ghost use mathlib.Core.Bool.{true};
+ghost use mathlib.Core.Path.{_≡_};
+ghost use Prim.Native.Nat.{_≤_};
+ghost use Rattle.units.specs.Ranges.{receiptCount};
+ghost use Rattle.zone.specs.Valid.{validZone};
+ghost use Rattle.image.specs.Image.{decode, encode, Encoded};
+ghost use Rattle.rules.specs.Effects.{sweeps, ruleAt};
+ghost use Rattle.rules.specs.Events.{afterLot};
+ghost use Rattle.visits.specs.Noted.{notedOf};
+use rules::AtLot;
+use rules::Call;
+use rules::Entry;
+use rules::KIND_QUOTE;
+use rules::OUTCOME_STRUCK;
+
+// What is listed of the lot.
+pub enum Noted {
+    One(Entry),
+    Nothing,
+}
+
+// A quote, by far the most frequent call. What a bid holds stays frozen when it is struck: no money moves, and the record alone is put.
+fn strike_lot(image: &mut [u8], c: Call, n: u8) -> Noted
+    requires { ⌜ Encoded (now image) × (validZone (decode (now image)) ≡ true) × (c .kind ≡ 9) × (1 ≤ n) × (n ≤ receiptCount) ⌝ }
+    ensures { λ r. ⌜ (now (image .exit) ≡ encode (afterLot (decode (now (image .entry))) (ruleAt c (decode (now (image .entry))) n) .zone)) × (r ≡ notedOf (ruleAt c (decode (now (image .entry))) n)) ⌝ }
+{
+    let k = (n - 1) as usize;
+    let f = image::record_at(image, k);
+    let v = lots::view_of(image, c.account, f);
+    if !offers::quote_meets(v, c, f) {
+        return Noted::Nothing;
+    }
+    put::receipt_record(image, k, offers::struck_record(v, f));
+    let price = f.price;
+    Noted::One(Entry {
+        lot: n,
+        outcome: OUTCOME_STRUCK,
+        from: f.buyer,
+        to: f.seller,
+        number: price.0,
+    })
+}
+
+// Any other kind: the rule is asked, and its event posted.
+fn post_lot(image: &mut [u8], c: Call, n: u8) -> Noted
+    requires { ⌜ Encoded (now image) × (validZone (decode (now image)) ≡ true) × (sweeps (c .kind) ≡ true) × (1 ≤ n) × (n ≤ receiptCount) ⌝ }
+    ensures { λ r. ⌜ (now (image .exit) ≡ encode (afterLot (decode (now (image .entry))) (ruleAt c (decode (now (image .entry))) n) .zone)) × (r ≡ notedOf (ruleAt c (decode (now (image .entry))) n)) ⌝ }
+{
+    let at = lots::visit(image, c, n);
+    match at {
+        AtLot::Event(e, r) => {
+            events::post(image, e, r);
+            Noted::One(e)
+        }
+        AtLot::NoEvent => Noted::Nothing,
+    }
+}
+
+pub fn work_lot(image: &mut [u8], c: Call, n: u8) -> Noted
+    requires { ⌜ Encoded (now image) × (validZone (decode (now image)) ≡ true) × (sweeps (c .kind) ≡ true) × (1 ≤ n) × (n ≤ receiptCount) ⌝ }
+    ensures { λ r. ⌜ (now (image .exit) ≡ encode (afterLot (decode (now (image .entry))) (ruleAt c (decode (now (image .entry))) n) .zone)) × (r ≡ notedOf (ruleAt c (decode (now (image .entry))) n)) ⌝ }
+{
+    if c.kind == KIND_QUOTE {
+        strike_lot(image, c, n)
+    } else {
+        post_lot(image, c, n)
+    }
+}
