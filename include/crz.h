@@ -36,9 +36,9 @@ extern "C" {
 /* ── Version of this interface ─────────────────────────────────────────────────────────────────── */
 
 #define CRZ_VERSION_MAJOR 1
-#define CRZ_VERSION_MINOR 0
+#define CRZ_VERSION_MINOR 1
 #define CRZ_VERSION_PATCH 0
-#define CRZ_VERSION "1.0.0"
+#define CRZ_VERSION "1.1.0"
 
 /* ── Lengths and counts ────────────────────────────────────────────────────────────────────────── */
 
@@ -154,9 +154,10 @@ enum crz_entry_layout {
  * and penalty have the seller in `from` and the buyer in `to`; registered, listed and ended have the owner, who is the
  * seller of a listing, in `from` and 0 in `to`. Where money passes, it passes from `from` to `to`.
  *
- * Entries stand in this order: both closes have their lots ascending; a quote has each lot that it strikes once, in an
- * order that a host must not rely on. Pay-ins and take-outs have no entry; each kind not named here has one, for its own
- * lot. A bid that another bid replaces, and a bid on a listing that ends, have no entry of their own.
+ * Entries stand in this order: both closes have their lots ascending; a quote has each lot that it strikes once, the
+ * highest price first, and lots at one price ascending. Pay-ins and take-outs have no entry; each kind not named here
+ * has one, for its own lot. A bid that another bid replaces, and a bid on a listing that ends, have no entry of their
+ * own.
  */
 enum crz_outcome { /* what the entry's number is; 0 where nothing stands */
     CRZ_OUTCOME_REGISTERED = 1,

@@ -8,16 +8,16 @@
 ends 2 "crz new FILE"
 ends 0 "crz new FILE" --help
 ends 0 "crz new FILE" help
-ends 0 "crz 1.0.0, zone format 1, SQLite 3" --version
+ends 0 "crz 1.1.0, zone format 2, SQLite 3" --version
 for command in new call play show log verify statement due import export; do
     ends 0 "crz $command FILE" help "$command"
     ends 0 "crz $command FILE" "$command" --help
-    ends 0 "crz 1.0.0, zone format 1" "$command" --version
+    ends 0 "crz 1.1.0, zone format 2" "$command" --version
     ends 2 "$command takes FILE" "$command"
 done
 ends 0 "crz new FILE" help --help
 ends 0 "crz new FILE" help help
-ends 0 "crz 1.0.0" help --version
+ends 0 "crz 1.1.0" help --version
 ends 0 "kilograms   1,000 to 60,000" help call
 ends 0 "limit-bid account N receipt N yuan N" help limit-bid
 ends 0 "yuan        5 to 200,000 in steps of 5" help limit-bid

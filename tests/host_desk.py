@@ -227,8 +227,10 @@ class Books:
 
     def quote(self, f):
         self.asks[f["contract"]] = f["yuan"]
-        return [self.strike(n, lot) for n, lot in self.lots.items() if lot.state == BID_STANDS and
-                lot.contract == f["contract"] and 0 < f["yuan"] <= lot.price]
+        met = [(n, lot) for n, lot in self.lots.items() if lot.state == BID_STANDS and
+               lot.contract == f["contract"] and 0 < f["yuan"] <= lot.price]
+        met.sort(key=lambda one: (-one[1].price, one[0]))  # highest price first, then by lot
+        return [self.strike(n, lot) for n, lot in met]
 
     def lodge(self, f):
         lot = self.lots[f["receipt"]]
@@ -385,7 +387,7 @@ def compare_answers(check, program, zone, script, wanted):
     check.same("calls played", len(said) - 1, len(wanted))
     for got, (call, number, seen, entries) in zip(said, wanted):
         check.same("answer to %s" % call, (got["call"], got["number"], got["seen"]), (call, number, seen))
-        check.same("entries of %s" % call, sorted(map(entry_fields, got["entries"])), sorted(entries))
+        check.same("entries of %s" % call, list(map(entry_fields, got["entries"])), entries)
 
 
 def lot_object(number, lot):

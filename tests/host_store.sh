@@ -72,8 +72,8 @@ for file in empty text zeros other; do
 done
 ends 3 "is a folder, not a zone" call folder day-close
 ends 3 "is no regular file" show pipe
-cp a older && change older "pragma user_version = 2"
-ends 3 "is a zone of format 2; this program knows format 1" call older day-close
+cp a older && change older "pragma user_version = 1"
+ends 3 "is a zone of format 1; this program knows format 2" call older day-close
 cp a tables && change tables "create table more (x)"
 ends 3 "its tables are not those of a zone" call tables day-close
 cp a cut && truncate -s -4096 cut

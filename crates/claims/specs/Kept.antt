@@ -15,7 +15,7 @@ use Rattle.rules.specs.declared.Entry.{Entry}
 use Rattle.rules.specs.Effects.{effect}
 use Rattle.rules.specs.Events.{Done}
 use Rattle.rules.specs.Steps.{numberOn}
-use Rattle.claims.specs.PriceOrder.{Each, Apart}
+use Rattle.claims.specs.PriceOrder.{EachEntry, Apart}
 
 -- a lot, an outcome, an account and an account or nobody, and a number of four bytes (01 Answers 3)
 pub record EntryFits (e : Entry) : Type 0 where
@@ -27,7 +27,7 @@ pub record EntryFits (e : Entry) : Type 0 where
 
 -- the number of each entry fits its four bytes
 abbrev pub NumbersFit : List Entry → Type 0
-NumbersFit es = Each (λ e. e .number < 2 ^ 32) es
+NumbersFit es = EachEntry (λ e. e .number < 2 ^ 32) es
 
 -- the entries are of lots from n on, each above the one before it (01 Answers 4), with fields in their ranges
 abbrev pub Ascending : ℕ → List Entry → Type 0
@@ -41,7 +41,7 @@ pub record Kept (kind : ℕ) (d : Done) : Type 0 where
   pub valid : validZone (d .zone) ≡ true
   pub ascending : kind ≢ 9 → Ascending 1 (d .entries)
   pub once : Apart (d .entries)
-  pub fit : Each EntryFits (d .entries)
+  pub fit : EachEntry EntryFits (d .entries)
   pub count : length (d .entries) ≤ receiptCount
 
 -- every accepted call keeps it

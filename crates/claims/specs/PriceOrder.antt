@@ -24,13 +24,13 @@ pub data Permuted : List Entry → List Entry → Type 0 where
   via : {es fs gs : List Entry} → Permuted es fs → Permuted fs gs → Permuted es gs
 
 -- what is said of an entry, of each one
-abbrev pub Each : (Entry → Type 0) → List Entry → Type 0
-Each P [] = Unit {0}
-Each P (e ∷ es) = P e × Each P es
+abbrev pub EachEntry : (Entry → Type 0) → List Entry → Type 0
+EachEntry P [] = Unit {0}
+EachEntry P (e ∷ es) = P e × EachEntry P es
 
 -- no entry is of lot k
 abbrev pub Without : ℕ → List Entry → Type 0
-Without k es = Each (λ e. e .lot ≢ k) es
+Without k es = EachEntry (λ e. e .lot ≢ k) es
 
 -- no two entries are of one lot
 abbrev pub Apart : List Entry → Type 0
@@ -56,7 +56,7 @@ Descending (a ∷ b ∷ es) = Above a b × Descending (b ∷ es)
 pub record ByPrice (strikes listed : List Entry) : Type 0 where
   pub same : Permuted strikes listed
   pub once : Apart listed
-  pub struck : Each (λ e. e .outcome ≡ 6) listed
+  pub struck : EachEntry (λ e. e .outcome ≡ 6) listed
   pub order : Descending listed
 
 -- the strikes of a quote: a visit to all lots, in ascending order, on the zone with the new ask (01 Calls 12)

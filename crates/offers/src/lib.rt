@@ -174,7 +174,7 @@ pub fn struck_record(v: View, f: Record) -> Record
     let due = due_day(v, f.days);
     let weight = f.weight;
     let basis = f.basis;
-    let price = f.price;
+    let bid_price = f.price;
     Record {
         owner: f.owner,
         state: STATE_STRUCK,
@@ -185,7 +185,7 @@ pub fn struck_record(v: View, f: Record) -> Record
         due: due,
         weight: weight,
         basis: basis,
-        price: price,
+        price: bid_price,
         pending: Fen(0),
         confirmed: Fen(0),
         paid: Fen(0),

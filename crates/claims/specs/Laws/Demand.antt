@@ -24,13 +24,13 @@ use Rattle.crz.specs.Returned.{afterBufferNumbers, callNumber, recordNumber}
 use Rattle.claims.specs.Demand.{Exchange, MadeFrom, noCalls, next, fed, KeepsImage, ImageKept, StaysValid, FreshIsValid, Demand3}
 use Rattle.claims.specs.History.{acceptedWith}
 use Rattle.claims.specs.Kept.{EntryFits, NumbersFit, Kept}
-use Rattle.claims.specs.PriceOrder.{Each}
+use Rattle.claims.specs.PriceOrder.{EachEntry}
 use Rattle.claims.specs.Laws.Values.{After, after-refused, after-accepted, after-fresh, holds}
 use Rattle.claims.specs.Laws.Kept.{keeps-valid}
 
 -- ── The entries of an answer ───────────────────────────────────────────────────────────────────
 
-numbers-fit : (es : List Entry) → Each EntryFits es → NumbersFit es
+numbers-fit : (es : List Entry) → EachEntry EntryFits es → NumbersFit es
 numbers-fit [] f = tt
 numbers-fit (e ∷ es) f = (f .0 .number, numbers-fit es (f .1))
 

@@ -19,7 +19,7 @@ use Rattle.rules.specs.Laws.Links.{Linked, Walk, good-walk}
 use Rattle.rules.specs.Laws.Order.{length-answer}
 use Rattle.rules.specs.Order.{answerOrder}
 use Rattle.claims.specs.Kept.{EntryFits, Ascending, KeepsValid}
-use Rattle.claims.specs.PriceOrder.{Each, Permuted}
+use Rattle.claims.specs.PriceOrder.{EachEntry, Permuted}
 use Rattle.claims.specs.Laws.Order.{ascending-apart, permuted-each, permuted-apart, answer-permuted, other-kind}
 
 entry-fits : {n : ℕ} {e : Entry} → 1 ≤ n → n ≤ receiptCount → EntryOk n e → EntryFits e
@@ -56,7 +56,7 @@ ordered c =
 pub lots-ordered : (z : Zone) (c : Call) → Good z → Taken z c → Ordered 1 (atLots z c .entries)
 lots-ordered z c G T = good-walk (ordered c) (T .chain) (opening-good z G c (T .passed))
 
-each-fits : (n : ℕ) (es : List Entry) → Ascending n es → Each EntryFits es
+each-fits : (n : ℕ) (es : List Entry) → Ascending n es → EachEntry EntryFits es
 each-fits n [] a = tt
 each-fits n (e ∷ es) a = (a .1, each-fits (suc (e .lot)) es (a .2))
 

@@ -15,7 +15,7 @@ use Rattle.rules.specs.declared.Entry.{Entry}
 use Rattle.rules.specs.Order.{standsBefore, putIn, byPrice, answerOrder}
 use Rattle.claims.specs.History.{HistoryTable, withEntry, enter, enterAll, OwnAct, EachOwnAct}
 use Rattle.claims.specs.Kept.{Ascending}
-use Rattle.claims.specs.PriceOrder.{Permuted, none, keep, swap, via, Each, Without, Apart, Above, higher, lowerLot, Descending}
+use Rattle.claims.specs.PriceOrder.{Permuted, none, keep, swap, via, EachEntry, Without, Apart, Above, higher, lowerLot, Descending}
 
 -- ── Different lots ─────────────────────────────────────────────────────────────────────────────
 
@@ -29,7 +29,7 @@ ascending-apart n [] a = tt
 ascending-apart n (e ∷ es) a = (ascending-without (e .lot) (suc (e .lot)) es (omega arith) (a .2), ascending-apart (suc (e .lot)) es (a .2))
 
 -- what is said of each entry, in any order
-pub permuted-each : (P : Entry → Type 0) {es fs : List Entry} → Permuted es fs → Each P es → Each P fs
+pub permuted-each : (P : Entry → Type 0) {es fs : List Entry} → Permuted es fs → EachEntry P es → EachEntry P fs
 permuted-each P none s = tt
 permuted-each P (keep p) s = (s .0, permuted-each P p (s .1))
 permuted-each P swap s = (s .1 .0, (s .0, s .1 .1))

@@ -27,7 +27,7 @@ use Rattle.calls.specs.Laws.Lots.{all-lots}
 use Rattle.lots.specs.Laws.Visits.{good-decode}
 use Rattle.crz.specs.Laws.Returned.{Left, refused, accepted, came}
 use Rattle.crz.specs.Returned.{recordNumber}
-use Rattle.claims.specs.PriceOrder.{Each, Apart, ByPrice, strikesOf, QuoteByPrice}
+use Rattle.claims.specs.PriceOrder.{EachEntry, Apart, ByPrice, strikesOf, QuoteByPrice}
 use Rattle.claims.specs.Laws.Demand.{Zero, zero-for, read-back}
 use Rattle.claims.specs.Laws.Kept.{lots-ordered}
 use Rattle.claims.specs.Laws.Order.{ascending-apart, permuted-apart, permuted-each, price-permuted, price-descending}
@@ -48,7 +48,7 @@ rule-strikes c k z n =
     let v : View = viewOf z (c .account) f in
     subst (λ (i : ℕ). On (λ e r. IsStrike e) (ruleOf i v c n f)) (sym k) (quote-strikes v c n f)
 
-strikes : (c : Call) → c .kind ≡ 9 → Walk c (λ lo z es last. Each IsStrike es)
+strikes : (c : Call) → c .kind ≡ 9 → Walk c (λ lo z es last. EachEntry IsStrike es)
 strikes c k = record { end = λ G. tt; step = λ {lo} {z} {es} {last} {n} L K. (on-event (rule-strikes c k z n) (L .rule), K) }
 
 -- ── The claim ──────────────────────────────────────────────────────────────────────────────────
@@ -74,7 +74,7 @@ module _ (image : List ℕ) (c : Call) (ok : Zero image c) (k : c .kind ≡ 9) w
       subst (λ (es : List Entry). ByPrice es (byPrice es)) all-swept
       (let T = taken z c (ok .number) in
       let apart : Apart swept = ascending-apart 1 swept (lots-ordered z c good T .ascending) in
-      let struck : Each IsStrike swept = good-walk (strikes c k) (T .chain) (opening-good z good c (T .passed)) in
+      let struck : EachEntry IsStrike swept = good-walk (strikes c k) (T .chain) (opening-good z good c (T .passed)) in
       record {
         same = price-permuted swept;
         once = permuted-apart (price-permuted swept) apart;

@@ -1,5 +1,6 @@
 -- The record of the receipt is put, and gives the receipt back.
 use mathlib.Core.Path.{_≡_, sym, ap, _∙_}
+use native.Mathlib.Omega.{arith}
 use denote.Ref.{now}
 use lib.ListN.{set}
 use Rattle.zone.specs.declared.Receipt.{Receipt}
@@ -19,7 +20,7 @@ record-of-requires : tie.Need-record-of-requires
 record-of-requires c κs = search needs
 
 receipt-record-requires : tie.Need-receipt-record-requires
-receipt-record-requires c κs = (c .before .before .before .pre .0, c .before .before .before .pre .1, ap recordOf (back (c)) ∙ sym (c .record-of .ensures))
+receipt-record-requires c κs = (c .before .before .before .pre .0, omega (arith, c .before .before .before .pre .1), ap recordOf (back (c)) ∙ sym (c .record-of .ensures))
 
 same-length : tie.Need-same-length
 same-length c = search needs
