@@ -46,7 +46,7 @@ static const struct kind_words kinds[] = {
     {"market-bid", CRZ_KIND_MARKET_BID, LOT, PARTY_NOT_SELLER, OPEN, "bids the ask and is struck at once"},
     {"withdraw-bid", CRZ_KIND_WITHDRAW_BID, LOT, PARTY_BUYER, BIT(CRZ_STATE_BID_STANDS), "takes a standing bid back"},
     {"quote", CRZ_KIND_QUOTE, BIT(FIELD_CONTRACT) | BIT(FIELD_YUAN), PARTY_HOST, 0,
-        "sets a contract's ask and strikes the bids that reach it, highest first; yuan 0 takes the ask away"},
+        "sets a contract's ask and strikes the bids that reach it, listed highest first; yuan 0 takes the ask away"},
     {"lodge", CRZ_KIND_LODGE, LOT, PARTY_SELLER, BIT(CRZ_STATE_STRUCK), "hands the receipt in for delivery"},
     {"morning-close", CRZ_KIND_MORNING_CLOSE, 0, PARTY_HOST, 0,
         "settles the lots that are due, or finds who defaulted"},

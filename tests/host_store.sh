@@ -74,6 +74,8 @@ ends 3 "is a folder, not a zone" call folder day-close
 ends 3 "is no regular file" show pipe
 cp a older && change older "pragma user_version = 1"
 ends 3 "is a zone of format 1; this program knows format 2" call older day-close
+cp a newer && change newer "pragma user_version = 3"
+ends 3 "is a zone of format 3; this program knows format 2" call newer day-close
 cp a tables && change tables "create table more (x)"
 ends 3 "its tables are not those of a zone" call tables day-close
 cp a cut && truncate -s -4096 cut

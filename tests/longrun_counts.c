@@ -88,16 +88,16 @@ static void count_entry(const struct made *made, uint8_t kind, const struct crz_
 }
 
 /* an accepted quote; strikes at one price are listed side by side */
-static void count_quote(const uint8_t *answer, uint32_t struck)
+static void count_quote(const uint8_t *answer, uint32_t strikes)
 {
     uint32_t i, equal = 0;
-    for (i = 1; i < struck && i < CRZ_ENTRY_COUNT; i++)
+    for (i = 1; i < strikes && i < CRZ_ENTRY_COUNT; i++)
         equal += crz_get_entry(answer, i - 1).number == crz_get_entry(answer, i).number;
-    quotes[SEVERAL] += struck > 1;
+    quotes[SEVERAL] += strikes > 1;
     quotes[AT_ONE_PRICE] += equal > 0;
-    quotes[AT_DIFFERENT_PRICES] += struck > equal + 1;
-    quotes[AT_BOTH] += equal > 0 && struck > equal + 1;
-    quotes[EVERY_LOT] += struck == CRZ_RECEIPT_COUNT;
+    quotes[AT_DIFFERENT_PRICES] += strikes > equal + 1;
+    quotes[AT_BOTH] += equal > 0 && strikes > equal + 1;
+    quotes[EVERY_LOT] += strikes == CRZ_RECEIPT_COUNT;
 }
 
 static void count_entries(const struct made *made, uint8_t kind)

@@ -42,7 +42,8 @@ static uint32_t falling(uint32_t lot)
 
 static uint32_t equal(uint32_t lot)
 {
-    return LOWEST + STEP + 0 * lot;
+    (void)lot;
+    return LOWEST + STEP;
 }
 
 /* 32 prices in no order, four lots at each */

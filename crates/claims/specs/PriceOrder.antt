@@ -1,15 +1,18 @@
--- What a quote lists (02 1/12), said without the function that puts entries in order: the strikes of the sweep, each lot once, and of any two
--- neighbours the first has the higher price, or the same price and the lower lot. The proof is in Laws/.
+-- What a quote lists (02 1/12), said without the function that puts entries in order: the strikes of the sweep, each lot once, each at the
+-- price that was bid on its lot; and of any two neighbours the first has the higher price, or the same price and the lower lot. The proof is
+-- in Laws/.
 -- Assumes nothing.
 use mathlib.Core.List.{List, [], _∷_}
 use mathlib.Core.Logic.{_≢_}
 use mathlib.Core.Path.{_≡_}
 use Prim.Native.Nat.{ℕ, _<_}
 use Rattle.units.specs.Ranges.{receiptCount}
+use Rattle.zone.specs.declared.Zone.{Zone}
 use Rattle.rules.specs.declared.Call.{Call}
 use Rattle.rules.specs.declared.Entry.{Entry}
 use Rattle.rules.specs.Effects.{opening, ruleAt}
 use Rattle.rules.specs.Events.{sweep}
+use Rattle.rules.specs.View.{recordOfReceipt}
 use Rattle.image.specs.Image.{decode}
 use Rattle.answers.specs.Buffers.{callIn, entriesIn}
 use Rattle.crz.specs.Returned.{Returned}
@@ -37,6 +40,13 @@ abbrev pub Apart : List Entry → Type 0
 Apart [] = Unit {0}
 Apart (e ∷ es) = Without (e .lot) es × Apart es
 
+-- a strike of the bid that stood on its lot: by its bidder, at its price
+pub record StrikesBid (z : Zone) (e : Entry) : Type 0 where
+  pub outcome : e .outcome ≡ 6
+  pub stood : recordOfReceipt z (e .lot) .state ≡ 2
+  pub bidder : e .from ≡ recordOfReceipt z (e .lot) .buyer
+  pub price : e .number ≡ recordOfReceipt z (e .lot) .price .0
+
 -- ── Their order ────────────────────────────────────────────────────────────────────────────────
 
 -- of two neighbours; the number of a strike is its price
@@ -52,14 +62,14 @@ Descending (a ∷ b ∷ es) = Above a b × Descending (b ∷ es)
 
 -- ── The claim ──────────────────────────────────────────────────────────────────────────────────
 
--- what is listed of the strikes of a sweep
-pub record ByPrice (strikes listed : List Entry) : Type 0 where
+-- what is listed of the strikes of a sweep, on the zone before the call
+pub record ByPrice (z : Zone) (strikes listed : List Entry) : Type 0 where
   pub same : Permuted strikes listed
   pub once : Apart listed
-  pub struck : EachEntry (λ e. e .outcome ≡ 6) listed
+  pub struck : EachEntry (StrikesBid z) listed
   pub order : Descending listed
 
--- the strikes of a quote: a visit to all lots, in ascending order, on the zone with the new ask (01 Calls 12)
+-- the strikes of a quote: all lots in ascending order, on the zone with the new ask (01 Calls 12)
 abbrev pub strikesOf : List ℕ → Call → List Entry
 strikesOf image c = sweep (ruleAt c) receiptCount 1 (opening c (decode image)) .entries
 
@@ -67,4 +77,4 @@ strikesOf image c = sweep (ruleAt c) receiptCount 1 (opening c (decode image)) .
 abbrev pub QuoteByPrice : Type 0
 QuoteByPrice =
     (image call answer image′ answer′ : List ℕ) → Returned image call answer 0 image′ answer′ → callIn call .kind ≡ 9
-    → ByPrice (strikesOf image (callIn call)) (entriesIn answer′)
+    → ByPrice (decode image) (strikesOf image (callIn call)) (entriesIn answer′)

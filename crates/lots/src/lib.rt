@@ -125,7 +125,8 @@ fn concerns(c: Call, state: u8, contract: u8) -> bool
     }
 }
 
-// From lot k on, the first that the call concerns, or the number of lots where it concerns none. Lots count from 0 here.
+// The lot to go on with from lot k, or the number of lots: at those before it the call's rule has no event. Which of them are passed over
+// is speed alone. Lots count from 0 here.
 pub fn next_concerned(image: &[u8], c: Call, k: usize) -> usize
     requires { ⌜ Encoded (now image) × (validZone (decode (now image)) ≡ true) × (sweeps (c .kind) ≡ true) × (k ≤ receiptCount) ⌝ }
     ensures { λ r. ⌜ (k ≤ r) × (r ≤ receiptCount) × ((j : ℕ) → k ≤ j → j < r → ruleAt c (decode (now (image .entry))) (j + 1) ≡ NoEvent) ⌝ }
@@ -140,8 +141,8 @@ pub fn next_concerned(image: &[u8], c: Call, k: usize) -> usize
     i
 }
 
-// What the call does at lot n.
-pub fn visit(image: &[u8], c: Call, n: u8) -> AtLot
+// What a close does at lot n; a quote goes another way (`visits`).
+pub fn event_at(image: &[u8], c: Call, n: u8) -> AtLot
     requires { ⌜ Encoded (now image) × (validZone (decode (now image)) ≡ true) × (sweeps (c .kind) ≡ true) × (1 ≤ n) × (n ≤ receiptCount) ⌝ }
     ensures { λ x. ⌜ x ≡ ruleAt c (decode (now (image .entry))) n ⌝ }
 {

@@ -192,8 +192,8 @@ pub fn struck_record(v: View, f: Record) -> Record
     }
 }
 
-// A bid that meets it is struck at its own price. Lots of other states and contracts are passed
-// over before; the record of no receipt, which a quote names, comes here.
+// The rule as a whole: a bid that meets the ask is struck at its own price. A sweep goes by the two functions above; here comes the
+// record of no receipt, which a quote names.
 pub fn quote_at(v: View, c: Call, n: u8, f: Record) -> AtLot
     requires { ⌜ Ready v f ⌝ }
     ensures { λ x. ⌜ x ≡ quoteLot v c n f ⌝ }

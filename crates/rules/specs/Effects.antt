@@ -1,5 +1,5 @@
--- What an accepted call does (01 Calls 4 to 26): an opening, a rule at its lots, an ending. The articles are those of
--- the guideline, source document 002.
+-- What an accepted call does (01 Calls 4 to 26): an opening, a rule at its lots, an ending, and its entries in the order of the answer. The
+-- articles are those of the guideline, source document 002.
 -- Assumes nothing.
 use mathlib.Core.Bool.{Bool, true, false, not, cond, _&&_}
 use mathlib.Core.List.{List, [], _∷_}
@@ -57,6 +57,7 @@ dueDay v days = cond (v .afternoon && eqb days 0) (v .day + 1) (v .day + days)
 abbrev pub bidStands : ℕ → Record → Bid → AtLot
 bidStands n f b = Event (entryOf n 4 (f .seller) (b .buyer) (b .price .0)) (withLot f (BidStands (listingOf f) b))
 
+-- the receipt with its lot struck by this bid, and its due day (01 Image 11, Calls 26)
 abbrev pub struckReceipt : View → Record → Bid → Receipt
 struckReceipt v f b = withLot f (Struck (record { listing = listingOf f; bid = b; due = dueDay v (f .days) }))
 
@@ -102,10 +103,11 @@ marketBid v c n f = bidStruck v n f (record { buyer = c .account; price = v .ask
 unfoldable pub withdrawBid : ℕ → Record → AtLot
 withdrawBid n f = eventOf n f (Listed (listingOf f)) 5 0
 
--- 9 quote (01 Calls 12): a standing bid of that contract that meets the ask is struck at its own price (article 10)
+-- 9 quote (01 Calls 12): a bid stands, for that contract, and the ask is at or below its price (article 10)
 abbrev pub quoteMeets : View → Call → Record → Bool
 quoteMeets v c f = eqb (f .state) 2 && eqb (f .contract) (c .contract) && meetsAsk v (f .price)
 
+-- it is struck at its own price
 unfoldable pub quoteLot : View → Call → ℕ → Record → AtLot
 quoteLot v c n f = cond (quoteMeets v c f) (bidStruck v n f (bidOf f)) NoEvent
 
@@ -240,7 +242,7 @@ ending c z =
     let toNextDay : Zone → Zone = λ z. withClock (withAsks z noAsks) (z .day + 1) false in
     row (c .kind) asIs ((11 ∷ [], toAfternoon) ∷ (15 ∷ [], toNextDay) ∷ []) z
 
--- what the call does at its lots: on the zone of the opening, in ascending order (01 Calls 12, 14, 25)
+-- what the call does at its lots, on the zone of the opening: in ascending order, as 01 Calls 14 has it for the morning close
 abbrev pub atLots : Zone → Call → Done
 atLots z c = sweep (ruleAt c) (lotCount c) (firstLot c) (opening c z)
 

@@ -4,10 +4,9 @@ ghost use mathlib.Core.Path.{_≡_};
 ghost use Prim.Native.Nat.{_≤_};
 ghost use Rattle.units.specs.Ranges.{receiptCount};
 ghost use Rattle.zone.specs.Valid.{validZone};
-ghost use Rattle.image.specs.Image.{decode, encode, Encoded};
-ghost use Rattle.rules.specs.Effects.{sweeps, ruleAt};
-ghost use Rattle.rules.specs.Events.{afterLot};
-ghost use Rattle.visits.specs.Noted.{notedOf};
+ghost use Rattle.image.specs.Image.{decode, Encoded};
+ghost use Rattle.rules.specs.Effects.{sweeps};
+ghost use Rattle.visits.specs.Noted.{Worked};
 use rules::AtLot;
 use rules::Call;
 use rules::Entry;
@@ -23,7 +22,7 @@ pub enum Noted {
 // A quote, by far the most frequent call. What a bid holds stays frozen when it is struck: no money moves, and the record alone is put.
 fn strike_lot(image: &mut [u8], c: Call, n: u8) -> Noted
     requires { ⌜ Encoded (now image) × (validZone (decode (now image)) ≡ true) × (c .kind ≡ 9) × (1 ≤ n) × (n ≤ receiptCount) ⌝ }
-    ensures { λ r. ⌜ (now (image .exit) ≡ encode (afterLot (decode (now (image .entry))) (ruleAt c (decode (now (image .entry))) n) .zone)) × (r ≡ notedOf (ruleAt c (decode (now (image .entry))) n)) ⌝ }
+    ensures { λ r. ⌜ Worked c n (now (image .entry)) (now (image .exit)) r ⌝ }
 {
     let k = (n - 1) as usize;
     let f = image::record_at(image, k);
@@ -42,12 +41,12 @@ fn strike_lot(image: &mut [u8], c: Call, n: u8) -> Noted
     })
 }
 
-// Any other kind: the rule is asked, and its event posted.
+// A close: the rule is asked, and its event posted.
 fn post_lot(image: &mut [u8], c: Call, n: u8) -> Noted
     requires { ⌜ Encoded (now image) × (validZone (decode (now image)) ≡ true) × (sweeps (c .kind) ≡ true) × (1 ≤ n) × (n ≤ receiptCount) ⌝ }
-    ensures { λ r. ⌜ (now (image .exit) ≡ encode (afterLot (decode (now (image .entry))) (ruleAt c (decode (now (image .entry))) n) .zone)) × (r ≡ notedOf (ruleAt c (decode (now (image .entry))) n)) ⌝ }
+    ensures { λ r. ⌜ Worked c n (now (image .entry)) (now (image .exit)) r ⌝ }
 {
-    let at = lots::visit(image, c, n);
+    let at = lots::event_at(image, c, n);
     match at {
         AtLot::Event(e, r) => {
             events::post(image, e, r);
@@ -57,9 +56,10 @@ fn post_lot(image: &mut [u8], c: Call, n: u8) -> Noted
     }
 }
 
+// What a call through all lots does at lot n.
 pub fn work_lot(image: &mut [u8], c: Call, n: u8) -> Noted
     requires { ⌜ Encoded (now image) × (validZone (decode (now image)) ≡ true) × (sweeps (c .kind) ≡ true) × (1 ≤ n) × (n ≤ receiptCount) ⌝ }
-    ensures { λ r. ⌜ (now (image .exit) ≡ encode (afterLot (decode (now (image .entry))) (ruleAt c (decode (now (image .entry))) n) .zone)) × (r ≡ notedOf (ruleAt c (decode (now (image .entry))) n)) ⌝ }
+    ensures { λ r. ⌜ Worked c n (now (image .entry)) (now (image .exit)) r ⌝ }
 {
     if c.kind == KIND_QUOTE {
         strike_lot(image, c, n)

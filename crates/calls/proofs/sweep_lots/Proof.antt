@@ -16,8 +16,7 @@ use Rattle.rules.specs.Laws.Good.{Good}
 use Rattle.rules.specs.declared.Entries.{Entries}
 use Rattle.rules.specs.EntryArray.{entryArray}
 use Rattle.lots.specs.Laws.Visits.{good-decode}
-use Rattle.visits.specs.declared.Noted.{Noted}
-use Rattle.visits.specs.Noted.{notedOf}
+use Rattle.visits.specs.Noted.{entriesOf}
 use Rattle.calls.specs.Laws.Good.{Of, bytes-of}
 use Rattle.calls.specs.Laws.Swept.{recorded, sweep-past, good-at, room, next-zone, next-entries, same-entries}
 use borrow.Author.Needs.{needs}
@@ -58,13 +57,13 @@ has-room c =
 -- what the lot left
 worked : (c : tie.After-work-lot Inv-loop μ-loop) →
     (c .work-lot .last .0 ≡ encode (sweep (ruleAt (c .before .before .before .before .before .before .before .args .c)) (c .before .before .before .loop .i + 1) 1 (decode (now (c .before .before .before .before .before .before .before .args .image))) .zone))
-    × (c .work-lot .result ≡ notedOf (ruleAt (c .before .before .before .before .before .before .before .args .c) (zone-so-far (c .before .before)) (c .before .before .before .loop .i + 1)))
+    × (entriesOf (c .work-lot .result) ≡ afterLot (zone-so-far (c .before .before)) (ruleAt (c .before .before .before .before .before .before .before .args .c) (zone-so-far (c .before .before)) (c .before .before .before .loop .i + 1)) .entries)
 worked c =
     let H = here (c .before .before) in
     let rule = ruleAt (c .before .before .before .before .before .before .before .args .c) in (
       c .work-lot .ensures .0 ∙ ap (λ (z : Zone). encode (afterLot z (rule z (c .before .before .before .loop .i + 1)) .zone)) (H .zone)
           ∙ ap encode (next-zone (c .before .before .before .before .before .before .before .args .c) _ (c .before .before .before .before .before .before .before .pre .2) (start-good (c .before .before .before .before .before .before .before)) (c .before .before .before .loop .i) (omega arith)),
-      c .work-lot .ensures .1 ∙ ap (λ (z : Zone). notedOf (rule z (c .before .before .before .loop .i + 1))) (H .zone),
+      c .work-lot .ensures .1 ∙ ap (λ (z : Zone). afterLot z (rule z (c .before .before .before .loop .i + 1)) .entries) (H .zone),
     )
 
 -- the entries with what is listed of it
@@ -79,9 +78,9 @@ listed c =
 one-entries : (c : tie.At-match-came Inv-loop μ-loop) → _≡_ {A = Entries} (record { count = c .match .count; all = c .match .entries })
     (entryArray (sweep (ruleAt (c .before .before .before .before .before .before .before .before .before .before .args .c)) (c .before .before .before .before .before .before .loop .i + 1) 1 (decode (now (c .before .before .before .before .before .before .before .before .before .before .args .image))) .entries))
 one-entries c =
-    let at = notedOf (ruleAt (c .before .before .before .before .before .before .before .before .before .before .args .c) (zone-so-far (c .before .before .before .before .before)) (c .before .before .before .before .before .before .loop .i + 1)) in
-    listed c ∙ ap (recorded _) (worked (c .before .before .before) .1) ∙ ap (λ (es : Entries). recorded es at) (c .before .before .before .before .before .before .loop .inv .2)
-    ∙ next-entries (c .before .before .before .before .before .before .before .before .before .before .args .c) _ (c .before .before .before .before .before .before .before .before .before .before .pre .2) (start-good (c .before .before .before .before .before .before .before .before .before .before)) (c .before .before .before .before .before .before .loop .i) (omega arith)
+    let noted = c .before .before .before .work-lot .result in
+    listed c ∙ ap (λ (es : Entries). recorded es noted) (c .before .before .before .before .before .before .loop .inv .2)
+    ∙ next-entries (c .before .before .before .before .before .before .before .before .before .before .args .c) _ (c .before .before .before .before .before .before .before .before .before .before .pre .2) (start-good (c .before .before .before .before .before .before .before .before .before .before)) (c .before .before .before .before .before .before .loop .i) (omega arith) noted (worked (c .before .before .before) .1)
 
 -- the image is the bytes of the zone after it
 there : (c : tie.After-work-lot Inv-loop μ-loop) → Of (c .work-lot .last .0) (sweep (ruleAt (c .before .before .before .before .before .before .before .args .c)) (c .before .before .before .loop .i + 1) 1 (decode (now (c .before .before .before .before .before .before .before .args .image))) .zone)

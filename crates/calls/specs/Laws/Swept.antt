@@ -24,7 +24,7 @@ use Rattle.rules.specs.declared.Entries.{Entries}
 use Rattle.rules.specs.EntryArray.{noEntry, entryArray}
 use Rattle.visits.specs.declared.Noted.{Noted}
 use Rattle.visits.specs.declared.Noted.the-variants.{One, Nothing}
-use Rattle.visits.specs.Noted.{notedOf}
+use Rattle.visits.specs.Noted.{entriesOf}
 
 -- the entries that the code has after one step more
 abbrev pub recorded : Entries → Noted → Entries
@@ -100,10 +100,10 @@ next-entry l e h =
     ∙ set-append-seam l noEntry (replicate k noEntry) e
     ∙ sym (append-assoc l (e ∷ []) (replicate k noEntry))
 
-recorded-more : (z : Zone) (l : List Entry) (s : AtLot) → length l < receiptCount → recorded (entryArray l) (notedOf s) ≡ entryArray (l ++ afterLot z s .entries)
+recorded-more : (l : List Entry) (noted : Noted) → length l < receiptCount → recorded (entryArray l) noted ≡ entryArray (l ++ entriesOf noted)
 unfolding entryArray
-recorded-more z l NoEvent h = rw (append-nil l)
-recorded-more z l (Event e r) h = same-entries (sym (length-append l (e ∷ []))) (next-entry l e h)
+recorded-more l Nothing h = rw (append-nil l)
+recorded-more l (One e) h = same-entries (sym (length-append l (e ∷ []))) (next-entry l e h)
 
 -- ── All lots of a good zone ────────────────────────────────────────────────────────────────────
 
@@ -136,8 +136,10 @@ module _ (c : Call) (z : Zone) (all : sweeps (c .kind) ≡ true) (G : Good z) wh
         ap (λ (s : AtLot). afterLot (so-far .zone) s .zone) next
         ∙ rw (add-one i, sweep-more (ruleAt c) i 1 (1 + i) z refl)
 
-    pub next-entries : recorded (entryArray (so-far .entries)) (notedOf (ruleAt c (so-far .zone) (i + 1))) ≡ entryArray (sweep (ruleAt c) (i + 1) 1 z .entries)
-    next-entries =
-        recorded-more (so-far .zone) (so-far .entries) at room
+    pub next-entries : (noted : Noted) → entriesOf noted ≡ afterLot (so-far .zone) (ruleAt c (so-far .zone) (i + 1)) .entries
+        → recorded (entryArray (so-far .entries)) noted ≡ entryArray (sweep (ruleAt c) (i + 1) 1 z .entries)
+    next-entries noted e =
+        recorded-more (so-far .entries) noted room
+        ∙ ap (λ (es : List Entry). entryArray (so-far .entries ++ es)) e
         ∙ ap (λ (s : AtLot). entryArray (so-far .entries ++ afterLot (so-far .zone) s .entries)) next
         ∙ rw (add-one i, sweep-more (ruleAt c) i 1 (1 + i) z refl)

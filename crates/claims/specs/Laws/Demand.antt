@@ -19,7 +19,7 @@ use Rattle.image.specs.Image.{validImage, decode, encode}
 use Rattle.image.specs.Laws.RoundTrip.{decode-encode, valid-encode, valid-decode, fresh-valid, fresh-sized, decode-sized}
 use Rattle.answers.specs.Buffers.{callLength, answerLength, callIn, entriesIn, acceptedAnswer}
 use Rattle.answers.specs.Laws.ReadBack.{Numbered, entries-back}
-use Rattle.crz.specs.Laws.Returned.{Left, refused, accepted, came}
+use Rattle.crz.specs.Laws.Returned.{Left, refused, accepted, returned-case}
 use Rattle.crz.specs.Returned.{afterBufferNumbers, callNumber, recordNumber}
 use Rattle.claims.specs.Demand.{Exchange, MadeFrom, noCalls, next, fed, KeepsImage, ImageKept, StaysValid, FreshIsValid, Demand3}
 use Rattle.claims.specs.History.{acceptedWith}
@@ -84,7 +84,7 @@ module _ (image : List ℕ) (c : Call) (ok : Zero image c) where
 
 pub image-kept : ImageKept
 image-kept image call answer number image′ answer′ R =
-    let C = came image call answer number image′ answer′ R in
+    let C = returned-case image call answer number image′ answer′ R in
     go (C .left) (C .is)
   where
     go : {n : ℕ} {i a : List ℕ} → Left image (callIn call) answer n i a → n ≡ recordNumber image call answer → KeepsImage image n i
@@ -117,7 +117,7 @@ after-fresh-image =
 after-made : {list : List Exchange} {image : List ℕ} → MadeFrom (encode freshZone) list image → AfterOn list image
 after-made noCalls = after-fresh-image
 after-made (next {list} {image} m call answer number image′ answer′ R) =
-    let C = came image call answer number image′ answer′ R in
+    let C = returned-case image call answer number image′ answer′ R in
     after-next call answer (after-made m) (C .left) (C .is)
 
 pub demand3 : Demand3

@@ -119,16 +119,16 @@ pub data Left (image : List ℕ) (c : Call) (answer : List ℕ) : ℕ → List �
   accepted : Left image c answer 0 (encode (effect (decode image) c .zone))
       (acceptedAnswer (effect (decode image) c .zone) (effect (decode image) c .entries) answer)
 
-pub record Came (image call answer : List ℕ) (number : ℕ) (image′ answer′ : List ℕ) : Type 0 where
+pub record ReturnedCase (image call answer : List ℕ) (number : ℕ) (image′ answer′ : List ℕ) : Type 0 where
   pub is : number ≡ recordNumber image call answer
   pub left : Left image (callIn call) answer number image′ answer′
 
-pub came : (image call answer : List ℕ) (number : ℕ) (image′ answer′ : List ℕ) → Returned image call answer number image′ answer′
-    → Came image call answer number image′ answer′
+pub returned-case : (image call answer : List ℕ) (number : ℕ) (image′ answer′ : List ℕ) → Returned image call answer number image′ answer′
+    → ReturnedCase image call answer number image′ answer′
 unfolding callEntry returnBy
-came image call answer number image′ answer′ = go (recordNumber image call answer) refl
+returned-case image call answer number image′ answer′ = go (recordNumber image call answer) refl
   where
     go : (n : ℕ) → n ≡ recordNumber image call answer → (number, image′, answer′) ≡ returnBy n image (callIn call) answer
-        → Came image call answer number image′ answer′
+        → ReturnedCase image call answer number image′ answer′
     go zero e R = rw (ap (λ (t : Return). t .0) R, ap (λ (t : Return). t .1) R, ap (λ (t : Return). t .2) R) (record { is = e; left = accepted })
     go (suc n) e R = rw (ap (λ (t : Return). t .0) R, ap (λ (t : Return). t .1) R, ap (λ (t : Return). t .2) R) (record { is = e; left = refused n })

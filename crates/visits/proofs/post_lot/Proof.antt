@@ -7,19 +7,18 @@ use Rattle.rules.specs.Events.{afterLot}
 use Rattle.rules.specs.Laws.Chain.{swept}
 use Rattle.lots.specs.Laws.Visits.{good-decode}
 use Rattle.visits.specs.Laws.Posts.{visit-posts}
-use Rattle.visits.specs.Noted.{notedOf}
 use borrow.Author.Needs.{needs}
 use Rattle.visits.proofs.post_lot.Statement.{statement}
 use Rattle.visits.proofs.post_lot.Tie as tie
 
-visit-requires : tie.Need-visit-requires
-visit-requires c κs = search needs
+event-at-requires : tie.Need-event-at-requires
+event-at-requires c κs = search needs
 
 enum-known-at : tie.Need-enum-known-at
 enum-known-at c = search needs
 
 post-requires : tie.Need-post-requires
-post-requires c κs = (c .before .before .before .before .before .before .before .pre .0, visit-posts (good-decode _ (c .before .before .before .before .before .before .before .pre .1)) (c .before .before .before .before .before .before .before .pre .3) (c .before .before .before .before .before .before .before .pre .4) (swept (c .before .before .before .before .before .before .before .pre .2)) (sym (c .before .before .before .before .visit .ensures) ∙ c .before .before .at .given .1))
+post-requires c κs = (c .before .before .before .before .before .before .before .pre .0, visit-posts (good-decode _ (c .before .before .before .before .before .before .before .pre .1)) (c .before .before .before .before .before .before .before .pre .3) (c .before .before .before .before .before .before .before .pre .4) (swept (c .before .before .before .before .before .before .before .pre .2)) (sym (c .before .before .before .before .event-at .ensures) ∙ c .before .before .at .given .1))
 
 enum-told : tie.Need-enum-told
 enum-told c = search needs
@@ -30,8 +29,8 @@ same-length c = search needs
 returns : tie.Need-returns
 returns c =
     let z = decode (now (c .before .before .before .before .before .before .before .before .before .before .args .image)) in
-    let e = sym (c .before .before .before .before .before .at .given .1) ∙ c .before .before .before .before .before .before .before .visit .ensures in
-    (c .before .before .post .ensures ∙ ap (λ (a : AtLot). encode (afterLot z a .zone)) e, ap notedOf e)
+    let e = sym (c .before .before .before .before .before .at .given .1) ∙ c .before .before .before .before .before .before .before .event-at .ensures in
+    (c .before .before .post .ensures ∙ ap (λ (a : AtLot). encode (afterLot z a .zone)) e, ap (λ (a : AtLot). afterLot z a .entries) e)
 
 same-length-2 : tie.Need-same-length-2
 same-length-2 c = search needs
@@ -39,14 +38,14 @@ same-length-2 c = search needs
 returns-2 : tie.Need-returns-2
 returns-2 c =
     let z = decode (now (c .before .before .before .before .before .args .image)) in
-    let e = sym (c .enum-told .given .1) ∙ c .before .before .visit .ensures in
-    (c .before .before .before .before .before .pre .0 ∙ ap (λ (a : AtLot). encode (afterLot z a .zone)) e, ap notedOf e)
+    let e = sym (c .enum-told .given .1) ∙ c .before .before .event-at .ensures in
+    (c .before .before .before .before .before .pre .0 ∙ ap (λ (a : AtLot). encode (afterLot z a .zone)) e, ap (λ (a : AtLot). afterLot z a .entries) e)
 
 pub post-lot-spec : {M : Type 1} → statement M
 post-lot-spec =
     tie.close
     (tie.spec
-    visit-requires
+    event-at-requires
     enum-known-at
     post-requires
     enum-told

@@ -25,7 +25,7 @@ use Rattle.events.specs.Laws.Moved.{record-in-place, record-valid}
 use Rattle.lots.specs.Laws.Visits.{good-decode}
 use Rattle.visits.specs.declared.Noted.the-variants.{One}
 use Rattle.visits.specs.Laws.Strikes.{not-met, met, money-stays}
-use Rattle.visits.specs.Noted.{notedOf}
+use Rattle.visits.specs.Noted.{entriesOf}
 use borrow.Author.Needs.{needs}
 use Rattle.visits.proofs.strike_lot.Statement.{statement}
 use Rattle.visits.proofs.strike_lot.Tie as tie
@@ -64,7 +64,7 @@ returns : tie.Need-returns
 returns c =
     let z = decode (now (c .before .before .before .before .before .before .before .args .image)) in
     let e = not-met (c .before .before .before .before .before .before .before .args .c) (c .before .before .before .before .before .before .before .pre .2) z (c .before .before .before .before .before .before .before .args .n) (sym (tested (c .before)) ∙ not-true _ (c .if1 .taken)) in
-    (c .before .before .before .before .before .before .before .pre .0 ∙ ap (λ (a : AtLot). encode (afterLot z a .zone)) (sym e), ap notedOf (sym e))
+    (c .before .before .before .before .before .before .before .pre .0 ∙ ap (λ (a : AtLot). encode (afterLot z a .zone)) (sym e), ap (λ (a : AtLot). afterLot z a .entries) (sym e))
 
 struck-record-requires : tie.Need-struck-record-requires
 struck-record-requires c κs = rw (seen (c .before .before .before), read (c .before .before .before .before .before)) (ready-at _ (good-decode _ (c .before .before .before .before .before .before .before .before .pre .1)) (c .before .before .before .before .before .before .before .before .args .c) (c .before .before .before .before .before .before .before .before .args .n))
@@ -89,8 +89,8 @@ returns-2 c =
           ∙ ap (λ (l : List Receipt). encode (withReceipts z l)) (sym (put-index (z .receipts) (c .before .before .before .before .before .before .before .before .before .before .before .before .before .args .n) (struckReceipt v f (bidOf f)) (c .before .before .before .before .before .before .before .before .before .before .before .before .before .pre .3)))
           ∙ ap encode (sym (money-stays (c .before .before .before .before .before .before .before .before .before .before .before .before .before .args .c) (c .before .before .before .before .before .before .before .before .before .before .before .before .before .pre .2) z (c .before .before .before .before .before .before .before .before .before .before .before .before .before .args .n) h (good-decode _ (c .before .before .before .before .before .before .before .before .before .before .before .before .before .pre .1)) (c .before .before .before .before .before .before .before .before .before .before .before .before .before .pre .3) (c .before .before .before .before .before .before .before .before .before .before .before .before .before .pre .4)))
           ∙ ap (λ (a : AtLot). encode (afterLot z a .zone)) (sym e),
-      ap (λ (f : Record). One (record { lot = c .before .before .before .before .before .before .before .before .before .before .before .before .before .args .n; outcome = 6; from = f .buyer; to = f .seller; number = f .price .0 })) (read (c .before .before .before .before .before .before .before .before .before .before))
-          ∙ ap notedOf (sym e),
+      ap (λ (f : Record). entriesOf (One (record { lot = c .before .before .before .before .before .before .before .before .before .before .before .before .before .args .n; outcome = 6; from = f .buyer; to = f .seller; number = f .price .0 }))) (read (c .before .before .before .before .before .before .before .before .before .before))
+          ∙ ap (λ (a : AtLot). afterLot z a .entries) (sym e),
     )
 
 pub strike-lot-spec : {M : Type 1} → statement M

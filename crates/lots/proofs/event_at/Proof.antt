@@ -11,8 +11,8 @@ use Rattle.rules.specs.View.{recordOfReceipt}
 use Rattle.events.specs.Laws.Moved.{record-in-place, record-valid}
 use Rattle.lots.specs.Laws.Visits.{good-decode, swept-ready}
 use borrow.Author.Needs.{needs}
-use Rattle.lots.proofs.visit.Statement.{statement}
-use Rattle.lots.proofs.visit.Tie as tie
+use Rattle.lots.proofs.event_at.Statement.{statement}
+use Rattle.lots.proofs.event_at.Tie as tie
 
 -- the record in its place is the lot's
 here : (c : tie.Start) → recordIn (receiptRun (now (c .args .image)) (c .args .n - 1)) ≡ recordOfReceipt (decode (now (c .args .image))) (c .args .n)
@@ -38,5 +38,5 @@ rule-of-requires c κs =
 returns : tie.Need-returns
 returns c = rw (c .rule-of .ensures, c .before .view-of .ensures, c .before .before .record-at .ensures, here (c .before .before .before .before))
 
-pub visit-spec : {M : Type 1} → statement M
-visit-spec = tie.close (tie.spec sub-k cast-k record-at-requires view-of-requires rule-of-requires returns)
+pub event-at-spec : {M : Type 1} → statement M
+event-at-spec = tie.close (tie.spec sub-k cast-k record-at-requires view-of-requires rule-of-requires returns)
