@@ -3,25 +3,15 @@
 use mathlib.Core.Bool.{true}
 use mathlib.Core.List.{List}
 use mathlib.Core.Path.{_≡_, refl, ap, _∙_}
-use Prim.Native.Nat.{ℕ, zero-le, _≤_, _<_}
-use Rattle.units.specs.Ranges.{receiptCount}
-use Rattle.zone.specs.declared.Receipt.{Receipt}
+use Prim.Native.Nat.{ℕ}
 use Rattle.zone.specs.declared.Zone.{Zone}
 use Rattle.zone.specs.Parts.{withAsks}
 use Rattle.zone.specs.Valid.{Sized, validZone, noAsks, all, askOk}
 use Rattle.image.specs.Image.{decode, encode, Encoded, Fits}
-use Rattle.image.specs.Laws.RoundTrip.{decode-fits, decode-sized, valid-fits}
-use Rattle.rules.specs.declared.Call.{Call}
-use Rattle.rules.specs.declared.Entry.{Entry}
-use Rattle.rules.specs.declared.AtLot.the-variants.{Event}
-use Rattle.rules.specs.Effects.{ruleAt}
-use Rattle.rules.specs.Laws.Chain.{Visit}
-use Rattle.rules.specs.Laws.Fit.{fit-valid}
+use Rattle.image.specs.Laws.RoundTrip.{decode-fits, decode-sized}
 use Rattle.rules.specs.Laws.Good.{Good, valid-of}
-use Rattle.rules.specs.Laws.Links.{Linked, linked, link-funded}
 use Rattle.events.specs.Laws.Moved.{encoded}
 use Rattle.visits.specs.Laws.Posts.{good-fits}
-use Rattle.events.specs.Posting.{Postable}
 
 -- s is the bytes of the good zone z
 pub record Of (s : List ℕ) (z : Zone) : Type 0 where

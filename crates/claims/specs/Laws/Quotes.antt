@@ -94,13 +94,18 @@ strikes c k = record { end = λ G. tt; step = λ {lo} {z} {es} L K. one es L K }
     one : {lo : ℕ} {z : Zone} (es : List Entry) {n : ℕ} {e : Entry} {r : Receipt} → Linked c lo z n e r → From (suc n) (posted z e r) es → From lo z (e ∷ es)
     one {lo} {z} es {n} {e} {r} L K =
         let S : StrikesAt n (recordOfReceipt z n) e = on-event (rule-strikes c k z n) (L .rule) in
-        let q : e .lot ≡ n = S .lot in
-        ((omega (arith, L .above), record {
-          outcome = S .outcome;
-          stood = rw q (S .stood);
-          bidder = rw q (S .bidder);
-          price = rw q (S .price);
-        }), behind z n lo e r q (L .above) es K)
+        let q : e .lot ≡ n = S .lot in (
+          (
+            omega (arith, L .above),
+            record {
+              outcome = S .outcome;
+              stood = rw q (S .stood);
+              bidder = rw q (S .bidder);
+              price = rw q (S .price);
+            },
+          ),
+          behind z n lo e r q (L .above) es K,
+        )
 
 bids-of : (n : ℕ) (y z : Zone) → ((m : ℕ) → recordOfReceipt y m ≡ recordOfReceipt z m) → (es : List Entry) → From n y es → EachEntry (StrikesBid z) es
 bids-of n y z q [] K = tt

@@ -1,10 +1,6 @@
 -- The rule by its test.
-use mathlib.Core.Bool.{Bool, cond}
-use mathlib.Core.Path.{_≡_, sym, ap, _∙_}
-use Rattle.zone.specs.Record.{bidOf}
-use Rattle.rules.specs.declared.AtLot.{AtLot}
-use Rattle.rules.specs.declared.AtLot.the-variants.{NoEvent}
-use Rattle.rules.specs.Effects.{bidStruck, quoteLot}
+use mathlib.Core.Path.{sym, _∙_}
+use Rattle.rules.specs.Effects.{quoteLot}
 use borrow.Author.Needs.{needs}
 use Rattle.offers.proofs.quote_at.Statement.{statement}
 use Rattle.offers.proofs.quote_at.Tie as tie

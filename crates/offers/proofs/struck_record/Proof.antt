@@ -2,7 +2,6 @@
 use native.Mathlib.Omega.{arith}
 use Rattle.zone.specs.Laws.Facts.{bounds}
 use Rattle.zone.specs.Record.{recordOf}
-use borrow.Author.Needs.{needs}
 use Rattle.offers.proofs.struck_record.Statement.{statement}
 use Rattle.offers.proofs.struck_record.Tie as tie
 

@@ -14,7 +14,7 @@ use Rattle.rules.specs.declared.Entry.{Entry}
 use Rattle.rules.specs.declared.AtLot.{AtLot}
 use Rattle.rules.specs.declared.AtLot.the-variants.{NoEvent, Event}
 use Rattle.rules.specs.Effects.{ruleAt, opening, sweeps, firstLot, lotCount, ending, atLots, effect}
-use Rattle.rules.specs.Events.{posted, Done, afterLot, sweep}
+use Rattle.rules.specs.Events.{posted, afterLot, sweep}
 use Rattle.rules.specs.Laws.Kinds.{withKind, ByKind, by-kind}
 use Rattle.rules.specs.Laws.Passed.{PassedAt, passed-at, ranges, kind-in}
 use Rattle.rules.specs.Steps.{numberOn}

@@ -3,7 +3,6 @@ use mathlib.Core.Path.{_≡_, sym, ap, _∙_}
 use native.Mathlib.Omega.{arith}
 use borrow.Author.Tests.{ne-eqb}
 use Prim.Native.Nat.{ℕ}
-use Rattle.rules.specs.declared.AtLot.{AtLot}
 use Rattle.rules.specs.Effects.{quoteLot, ruleOf}
 use Rattle.rules.specs.Laws.Passed.{passed-all}
 use Rattle.rules.specs.Laws.Ready.{ready-with}

@@ -1,5 +1,5 @@
 -- The rule's event is posted.
-use mathlib.Core.Path.{_≡_, sym, ap, _∙_}
+use mathlib.Core.Path.{sym, ap, _∙_}
 use denote.Ref.{now}
 use Rattle.image.specs.Image.{decode, encode}
 use Rattle.rules.specs.declared.AtLot.{AtLot}

@@ -1,6 +1,6 @@
 -- What is read is the lot's; a bid that is struck leaves all money where it is (Laws/Strikes).
-use mathlib.Core.Bool.{true, false}
-use mathlib.Core.Path.{_≡_, refl, sym, ap, _∙_}
+use mathlib.Core.Bool.{true}
+use mathlib.Core.Path.{_≡_, sym, ap, _∙_}
 use native.Mathlib.Omega.{arith}
 use borrow.Author.Tests.{not-true, not-false}
 use denote.Ref.{now}
@@ -15,7 +15,6 @@ use Rattle.zone.specs.Record.{recordOf, receiptOf, bidOf}
 use Rattle.image.specs.Image.{decode, encode}
 use Rattle.image.specs.Laws.RoundTrip.{same-long, valid-fits}
 use Rattle.rules.specs.declared.AtLot.{AtLot}
-use Rattle.rules.specs.declared.View.{View}
 use Rattle.rules.specs.Effects.{quoteMeets, struckReceipt}
 use Rattle.rules.specs.Events.{afterLot}
 use Rattle.rules.specs.Laws.Ready.{ready-at}

@@ -1,12 +1,11 @@
 -- A standing bid that is struck moves no money: what its lot held is what it holds.
 -- Assumes nothing.
-use mathlib.Core.Bool.{Bool, true, false, cond, _&&_}
+use mathlib.Core.Bool.{true, false}
 use mathlib.Core.List.{List, [], _∷_}
 use mathlib.Core.Path.{_≡_, refl, sym, ap, _∙_, subst}
 use Prim.Native.Nat.{ℕ, zero, suc, _+_, _-_, _≤_, _<_}
 use native.Mathlib.Omega.{arith}
 use borrow.Author.Tests.{eqb-true}
-use lib.Dec.{eqb}
 use lib.ListN.{length, getD, set}
 use Rattle.units.specs.declared.Fen.{Fen}
 use Rattle.units.specs.Payments.{fen, deposit}
@@ -25,7 +24,7 @@ use Rattle.rules.specs.declared.AtLot.the-variants.{NoEvent, Event}
 use Rattle.rules.specs.declared.Call.{Call}
 use Rattle.rules.specs.declared.Entry.{Entry}
 use Rattle.rules.specs.declared.View.{View}
-use Rattle.rules.specs.Effects.{entryOf, struckReceipt, bidStruck, quoteMeets, quoteLot, ruleOf, ruleAt}
+use Rattle.rules.specs.Effects.{entryOf, struckReceipt, quoteMeets, quoteLot, ruleOf, ruleAt}
 use Rattle.rules.specs.Events.{credit, debit, release, freeze, moneyMoved, moneyOf, accountsAfter, posted}
 use Rattle.rules.specs.Laws.Chain.{swept}
 use Rattle.rules.specs.Laws.Good.{Good}
