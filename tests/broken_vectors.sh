@@ -7,9 +7,12 @@
 vectors=$(realpath "$1") history=$(realpath "$2") stack=$(realpath "$3")
 cd "$work" || exit 2
 
-# few lines of each kind: three calls of a run, an image whose call changes it and one with another length
+# few lines of each kind: three calls of a run, the last of them its first that changes the image, so that nothing before them is missed;
+# an image whose call changes it and one with another length
 mkdir whole broken
-sed '/^#/d' "$here/tests/vectors/run-1.txt" | awk '{ print } /^I/ && ++calls == 3 { exit }' >whole/run-1.txt
+awk '/^Z/ { print } /^C/ { call[++calls] = "" } /^[CRAI]/ { call[calls] = call[calls] $0 "\n" }
+    /^I [0-9]/ { printf "%s%s%s", call[calls - 2], call[calls - 1], call[calls]; exit }' \
+    "$here/tests/vectors/run-1.txt" >whole/run-1.txt
 awk '/^Z/ { block = "" } { block = block $0 "\n" }
     /^I [0-9]/ && !accepted { printf "%s", block; accepted = 1 }
     /^L/ { cut = !shorter } /^I/ && cut { printf "%s", block; cut = 0; shorter = 1 }' \
@@ -119,14 +122,14 @@ breaks_image "a length that is none" "$bad_line" sed 's/^L .*/L -1/'
 breaks_image "a length that is too large" "$bad_line" sed 's/^L .*/L 65537/'
 breaks_run "a number that is none" "$bad_line" sed '0,/^R/s/^R .*/R 0x/'
 breaks_run "a call without the answer's length" "$bad_line" sed '0,/^C/s/^\(C [^ ]*\).*/\1/'
-breaks_run "an answer longer than its buffer" "$bad_line" sed '0,/^C/s/^\(C [^ ]*\).*/\1 1/'
+breaks_run "an answer longer than its buffer" "$bad_line" sed '0,/^C/s/^\(C [^ ]*\).*/\1 0/'
 breaks_run "a change that is neither" "$bad_line" sed '0,/^I/s/^I.*/I sane/'
 
 # ── Lines that say something else ───────────────────────────────────────────────────────────────────
 breaks_run "another number" "$differs" sed '0,/^R/s/^R .*/R 13/'
 breaks_bytes "another answer" "$differs" sed '0,/^A/s/^A ../A 01/'
-breaks_bytes "another change" "$differs" sed '0,/^I [0-9]/s/^I .*/I same/'
-breaks_bytes "one byte more changed" "$differs" sed '0,/^I [0-9]/s/^I .*/& 5000:01/'
+breaks_bytes "another change" "$differs" sed 's/^I [0-9].*/I same/'
+breaks_bytes "one byte more changed" "$differs" sed 's/^I [0-9].*/& 5000:01/'
 
 # ── Lists ───────────────────────────────────────────────────────────────────────────────────────────
 breaks_list "an empty list" "names no file that begins with" true
