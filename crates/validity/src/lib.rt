@@ -144,7 +144,7 @@ pub fn full_of(r: Record) -> Fen
     units::full_payment(price, basis, weight)
 }
 
-// The tests go in an order in which no sum and no product can wrap.
+// The tests go in an order in which no sum and no product can wrap. A product is compared, because it costs less than a division.
 fn invoices_within(r: Record) -> bool
     requires { ⌜ (r .state ≡ 6) × (fieldsOk r ≡ true) ⌝ }
     ensures { λ x. ⌜ x ≡ invoicesWithin r ⌝ }
@@ -161,7 +161,10 @@ fn invoices_within(r: Record) -> bool
     if all < pending {
         return false;
     }
-    (confirmed + pending <= all) & (paid <= rest * confirmed / all)
+    if rest < paid {
+        return false;
+    }
+    (confirmed + pending <= all) & (paid * all <= rest * confirmed)
 }
 
 pub fn record_ok(r: Record) -> bool
