@@ -135,7 +135,7 @@ unfoldable pub acceptedBytes : Zone → List Entry → List ℕ
 acceptedBytes z es = headerOf (z .afternoon) (length es) (z .total .0) ++ tableBytes entryBytes es
 
 -- The bytes from the start of the answer on, zeros behind them to its length, and what stands past that as it was. Nothing is taken
--- that is not there: no call lists more than an entry a lot (`effect-few`, crz, Laws/Entries).
+-- that is not there: no call lists more than an entry a lot (`effect-few`, calls, Laws/Ordered).
 unfoldable pub padded : List ℕ → List ℕ → List ℕ
 padded bytes old = bytes ++ replicate (answerLength - length bytes) 0 ++ drop answerLength old
 

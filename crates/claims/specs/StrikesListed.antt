@@ -22,6 +22,7 @@ bidOn mill receipt price = payIn mill 5000000 ∷ registers 1 receipt 41237 ∷ 
 abbrev threeBids : List Call
 threeBids = bidOn 2 5 14995 ++ (bidOn 3 6 15000 ++ bidOn 4 7 15000)
 
+-- a lot of ginner 1 struck by a mill at a price
 abbrev strike : ℕ → ℕ → ℕ → Entry
 strike lot mill price = record { lot = lot; outcome = 6; from = mill; to = 1; number = price }
 

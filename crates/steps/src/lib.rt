@@ -23,7 +23,8 @@ use rules::Step;
 use rules::View;
 use zone::Record;
 
-// What a call does at lot n, by its kind. Pay-ins and take-outs concern no lot.
+// What a call does at lot n, by its kind. Pay-ins and take-outs concern no lot. It is whole, though the library's own callers ask the
+// rule of quotes for itself.
 pub fn rule_of(v: View, c: Call, n: u8, f: Record) -> AtLot
     requires { ⌜ Ready v f × ReadyCall c f ⌝ }
     ensures { λ x. ⌜ x ≡ ruleOf (c .kind) v c n f ⌝ }

@@ -3,7 +3,7 @@
 use mathlib.Core.Bool.{Bool, true, false, not, cond}
 use mathlib.Core.List.{List, [], _∷_, map}
 use mathlib.Core.Path.{_≡_, refl, sym, subst}
-use Prim.Native.Nat.{ℕ, zero, suc}
+use Prim.Native.Nat.{ℕ, zero, suc, _^_, _<_}
 use native.Mathlib.Nat.{le-of-suc-le-suc, not-suc-le-zero}
 use native.Mathlib.Omega.{arith}
 use lib.Dec.{eqb, ltb}
@@ -27,12 +27,12 @@ use Rattle.claims.specs.Kept.{EntryFits, NumbersFit, Kept}
 use Rattle.claims.specs.PriceOrder.{EachEntry}
 use Rattle.claims.specs.Laws.Values.{After, after-refused, after-accepted, after-fresh, holds}
 use Rattle.claims.specs.Laws.Kept.{keeps-valid}
+use Rattle.claims.specs.Laws.Order.{each-map}
 
 -- ── The entries of an answer ───────────────────────────────────────────────────────────────────
 
 numbers-fit : (es : List Entry) → EachEntry EntryFits es → NumbersFit es
-numbers-fit [] f = tt
-numbers-fit (e ∷ es) f = (f .0 .number, numbers-fit es (f .1))
+numbers-fit = each-map EntryFits (λ e. e .number < 2 ^ 32) (λ e f. f .number)
 
 pub numbered : (es : List Entry) → NumbersFit es → Numbered es
 numbered [] s k h = absurd (not-suc-le-zero h)

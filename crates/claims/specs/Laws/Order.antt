@@ -28,6 +28,11 @@ pub ascending-apart : (n : ℕ) (es : List Entry) → Ascending n es → Apart e
 ascending-apart n [] a = tt
 ascending-apart n (e ∷ es) a = (ascending-without (e .lot) (suc (e .lot)) es (omega arith) (a .2), ascending-apart (suc (e .lot)) es (a .2))
 
+-- what follows of each entry
+pub each-map : (P Q : Entry → Type 0) → ((e : Entry) → P e → Q e) → (es : List Entry) → EachEntry P es → EachEntry Q es
+each-map P Q f [] s = tt
+each-map P Q f (e ∷ es) s = (f e (s .0), each-map P Q f es (s .1))
+
 -- what is said of each entry, in any order
 pub permuted-each : (P : Entry → Type 0) {es fs : List Entry} → Permuted es fs → EachEntry P es → EachEntry P fs
 permuted-each P none s = tt

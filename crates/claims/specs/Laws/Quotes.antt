@@ -1,6 +1,6 @@
 -- A quote lists the strikes of its sweep by price: from what its answer gives back, and the laws of the order.
 -- Assumes nothing.
-use mathlib.Core.List.{List, [], _∷_}
+use mathlib.Core.List.{List, _∷_}
 use mathlib.Core.Logic.{_≢_}
 use mathlib.Core.Path.{_≡_, refl, sym, ap, _∙_, subst}
 use Prim.Native.Nat.{ℕ, suc, _≤_}
@@ -15,7 +15,7 @@ use Rattle.zone.specs.Valid.{noReceipt}
 use Rattle.rules.specs.declared.Call.{Call}
 use Rattle.rules.specs.declared.Entry.{Entry}
 use Rattle.rules.specs.declared.View.{View}
-use Rattle.rules.specs.Effects.{quoteMeets, quoteLot, ruleOf, ruleAt, atLots, effect, lotCount, opening}
+use Rattle.rules.specs.Effects.{quoteMeets, quoteLot, ruleAt, atLots, effect, lotCount, opening}
 use Rattle.rules.specs.Events.{posted, sweep}
 use Rattle.rules.specs.Laws.Chain.{On, event, only, on-event, taken}
 use Rattle.rules.specs.Laws.Good.{Good}
@@ -29,12 +29,13 @@ use Rattle.image.specs.Laws.RoundTrip.{valid-decode}
 use Rattle.answers.specs.Buffers.{callIn, entriesIn}
 use Rattle.calls.specs.Laws.Lots.{all-lots}
 use Rattle.lots.specs.Laws.Visits.{good-decode}
+use Rattle.visits.specs.Laws.Strikes.{by-quote}
 use Rattle.crz.specs.Laws.Returned.{Left, refused, accepted, returned-case}
 use Rattle.crz.specs.Returned.{recordNumber}
 use Rattle.claims.specs.PriceOrder.{EachEntry, Apart, StrikesBid, ByPrice, strikesOf, QuoteByPrice}
 use Rattle.claims.specs.Laws.Demand.{Zero, zero-for, read-back}
 use Rattle.claims.specs.Laws.Kept.{lots-ordered}
-use Rattle.claims.specs.Laws.Order.{ascending-apart, permuted-apart, permuted-each, price-permuted, price-descending}
+use Rattle.claims.specs.Laws.Order.{ascending-apart, each-map, permuted-apart, permuted-each, price-permuted, price-descending}
 
 -- ── Records that an event leaves ───────────────────────────────────────────────────────────────
 
@@ -62,11 +63,9 @@ quote-strikes v c n f =
     event (record { lot = refl; outcome = refl; stood = eqb-true _ 2 (both _ _ (both _ _ t .0) .0); bidder = refl; price = refl })
 
 rule-strikes : (c : Call) → c .kind ≡ 9 → (z : Zone) (n : ℕ) → On (λ e r. StrikesAt n (recordOfReceipt z n) e) (ruleAt c z n)
-unfolding ruleOf
 rule-strikes c k z n =
     let f : Record = recordOfReceipt z n in
-    let v : View = viewOf z (c .account) f in
-    subst (λ (i : ℕ). On (λ e r. StrikesAt n f e) (ruleOf i v c n f)) (sym k) (quote-strikes v c n f)
+    subst (On (λ e r. StrikesAt n f e)) (sym (by-quote c k z n)) (quote-strikes (viewOf z (c .account) f) c n f)
 
 -- of the record as it is in another zone
 strikes-in : (y z : Zone) (e : Entry) → recordOfReceipt y (e .lot) ≡ recordOfReceipt z (e .lot) → StrikesBid y e → StrikesBid z e
@@ -84,9 +83,9 @@ From n z es = EachEntry (λ e. (n ≤ e .lot) × StrikesBid z e) es
 
 -- an event at lot n leaves the records of the lots behind it
 behind : (z : Zone) (n m : ℕ) (e : Entry) (r : Receipt) → e .lot ≡ n → m ≤ n → (es : List Entry) → From (suc n) (posted z e r) es → From m z es
-behind z n m e r q h [] K = tt
-behind z n m e r q h (x ∷ es) K =
-    ((omega (arith, K .0 .0), strikes-in (posted z e r) z x (other-record z e r (x .lot) (omega (arith, K .0 .0))) (K .0 .1)), behind z n m e r q h es (K .1))
+behind z n m e r q h =
+    each-map (λ x. (suc n ≤ x .lot) × StrikesBid (posted z e r) x) (λ x. (m ≤ x .lot) × StrikesBid z x)
+    λ x K. (omega (arith, K .0), strikes-in (posted z e r) z x (other-record z e r (x .lot) (omega (arith, K .0))) (K .1))
 
 strikes : (c : Call) → c .kind ≡ 9 → Walk c (λ lo z es last. From lo z es)
 strikes c k = record { end = λ G. tt; step = λ {lo} {z} {es} L K. one es L K }
@@ -108,8 +107,7 @@ strikes c k = record { end = λ G. tt; step = λ {lo} {z} {es} L K. one es L K }
         )
 
 bids-of : (n : ℕ) (y z : Zone) → ((m : ℕ) → recordOfReceipt y m ≡ recordOfReceipt z m) → (es : List Entry) → From n y es → EachEntry (StrikesBid z) es
-bids-of n y z q [] K = tt
-bids-of n y z q (e ∷ es) K = (strikes-in y z e (q (e .lot)) (K .0 .1), bids-of n y z q es (K .1))
+bids-of n y z q = each-map (λ e. (n ≤ e .lot) × StrikesBid y e) (StrikesBid z) λ e K. strikes-in y z e (q (e .lot)) (K .1)
 
 -- ── The claim ──────────────────────────────────────────────────────────────────────────────────
 

@@ -1,9 +1,9 @@
 -- Full payment, confirmed and pending are at most 1,500,000,000 fen, so no sum and no product wraps; each early answer is a test that fails.
-use Rattle.units.specs.Laws.Bounds.{mostFull}
+use Rattle.units.specs.Laws.Bounds.{mostFull, bound-le-rest}
 use mathlib.Core.Bool.{Bool, true, false, _&&_, and-false}
-use mathlib.Core.Path.{_≡_, refl, sym, subst}
+use mathlib.Core.Path.{_≡_, refl, sym}
 use Prim.Native.Nat.{ℕ, _≤_, _<_, _+_, _*_, _/_}
-use native.Mathlib.Nat.{mul-comm, mul-le-mul, mul-le-mul-left, le-div-iff-mul-le, div-le-of-le-mul}
+use native.Mathlib.Nat.{mul-le-mul, le-div-iff-mul-le}
 use native.Mathlib.Omega.{arith}
 use borrow.Author.Tests.{leb-true, leb-false, lt-ltb, le-ltb, lt-leb}
 use lib.Dec.{leb, ltb}
@@ -11,7 +11,6 @@ use Rattle.zone.specs.Held.{full, rest}
 use Rattle.zone.specs.Valid.{invoicesWithin}
 use Rattle.zone.specs.Laws.Facts.{fields-in, fields-bounds}
 use Rattle.zone.specs.Laws.Held.{full-le, rest-le}
-use borrow.Author.Needs.{needs}
 use Rattle.validity.proofs.invoices_within.Statement.{statement}
 use Rattle.validity.proofs.invoices_within.Tie as tie
 
@@ -24,10 +23,6 @@ by-product x y k h = go (leb (x * k) y) (leb x (y / k)) refl refl
     go false false p q = refl
     go true false p q = absurd (omega (arith, le-div-iff-mul-le {x = x} {y = y} h .1 (leb-true (x * k) y p), leb-false x (y / k) q))
     go false true p q = absurd (omega (arith, leb-false (x * k) y p, le-div-iff-mul-le {x = x} {y = y} h .0 (leb-true x (y / k) q)))
-
--- a share is at most the whole
-share-le : (n a k : ℕ) → a ≤ k → n * a / k ≤ n
-share-le n a k h = div-le-of-le-mul k (subst (λ (m : ℕ). n * a ≤ m) (mul-comm n k) (mul-le-mul-left n h))
 
 small : (c : tie.Start) → full (c .args .r) .0 ≤ mostFull
 small c = full-le (c .args .r) (fields-bounds (c .args .r) (fields-in (c .args .r) (c .pre .1)))
@@ -66,7 +61,7 @@ returns-3 c =
     let r = c .before .before .before .before .before .args .r in
     let f : r .confirmed .0 < full r .0 = below (c .before .before) in
     let more : rest r .0 < r .paid .0 = rw (c .before .before .before .rest-payment .ensures, c .before .before .before .before .full-of .ensures) at (c .if3 .taken) in
-    rw (lt-leb (r .paid .0) (rest r .0 * r .confirmed .0 / full r .0) (omega (arith, share-le (rest r .0) (r .confirmed .0) (full r .0) (omega arith)))) (sym (and-false (ltb (r .confirmed .0) (full r .0) && leb (r .confirmed .0 + r .pending .0) (full r .0))))
+    rw (lt-leb (r .paid .0) (rest r .0 * r .confirmed .0 / full r .0) (omega (arith, bound-le-rest (full r) (r .confirmed .0) (omega arith)))) (sym (and-false (ltb (r .confirmed .0) (full r .0) && leb (r .confirmed .0 + r .pending .0) (full r .0))))
 
 mul-result : tie.Need-mul-result
 mul-result c =

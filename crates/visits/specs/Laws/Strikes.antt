@@ -1,12 +1,13 @@
 -- A standing bid that is struck moves no money: what its lot held is what it holds.
 -- Assumes nothing.
 use mathlib.Core.Bool.{true, false}
-use mathlib.Core.List.{List, [], _∷_}
+use mathlib.Core.List.{List}
 use mathlib.Core.Path.{_≡_, refl, sym, ap, _∙_, subst}
 use Prim.Native.Nat.{ℕ, zero, suc, _+_, _-_, _≤_, _<_}
 use native.Mathlib.Omega.{arith}
 use borrow.Author.Tests.{eqb-true}
-use lib.ListN.{length, getD, set}
+use lib.ListN.{length}
+use lib.Seq.{set-getD, set-set}
 use Rattle.units.specs.declared.Fen.{Fen}
 use Rattle.units.specs.Payments.{fen, deposit}
 use Rattle.units.specs.Ranges.{receiptCount}
@@ -36,20 +37,10 @@ use Rattle.visits.specs.Laws.Posts.{visit-posts}
 
 -- ── A table that is put as it is ───────────────────────────────────────────────────────────────
 
-set-same : (d : Account) (l : List Account) (k : ℕ) → set l k (getD l k d) ≡ l
-set-same d [] k = refl
-set-same d (x ∷ xs) zero = refl
-set-same d (x ∷ xs) (suc k) = ap (λ (r : List Account). x ∷ r) (set-same d xs k)
-
 put-same : (l : List Account) (a : ℕ) → put l a (nth emptyAccount l a) ≡ l
 unfolding put nth
 put-same l zero = refl
-put-same l (suc k) = set-same emptyAccount l k
-
-set-set : (l : List Account) (k : ℕ) (x y : Account) → set (set l k x) k y ≡ set l k y
-set-set [] k x y = refl
-set-set (a ∷ l) zero x y = refl
-set-set (a ∷ l) (suc k) x y = ap (λ (r : List Account). a ∷ r) (set-set l k x y)
+put-same l (suc k) = set-getD l k emptyAccount
 
 put-put : (l : List Account) (a : ℕ) (x y : Account) → put (put l a x) a y ≡ put l a y
 unfolding put
@@ -114,7 +105,7 @@ module _ (c : Call) (k : c .kind ≡ 9) (z : Zone) (n : ℕ) where
   abbrev r : Receipt
   r = struckReceipt v f (bidOf f)
 
-  by-quote : ruleAt c z n ≡ quoteLot v c n f
+  pub by-quote : ruleAt c z n ≡ quoteLot v c n f
   unfolding ruleOf
   by-quote = ap (λ (i : ℕ). ruleOf i v c n f) k
 
