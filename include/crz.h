@@ -35,19 +35,19 @@ extern "C" {
 
 /* ── Version of this interface ─────────────────────────────────────────────────────────────────── */
 
-#define CRZ_VERSION_MAJOR 1
-#define CRZ_VERSION_MINOR 1
+#define CRZ_VERSION_MAJOR 2
+#define CRZ_VERSION_MINOR 0
 #define CRZ_VERSION_PATCH 0
-#define CRZ_VERSION "1.1.0"
+#define CRZ_VERSION "2.0.0"
 
 /* ── Lengths and counts ────────────────────────────────────────────────────────────────────────── */
 
-#define CRZ_IMAGE_LENGTH 5696
+#define CRZ_IMAGE_LENGTH 6208
 #define CRZ_CALL_LENGTH 24
 #define CRZ_ANSWER_LENGTH 1040
 #define CRZ_ACCOUNT_LENGTH 16
 #define CRZ_ASK_LENGTH 4
-#define CRZ_RECEIPT_LENGTH 32
+#define CRZ_RECEIPT_LENGTH 36
 #define CRZ_ENTRY_LENGTH 8
 
 #define CRZ_ACCOUNT_COUNT 96
@@ -62,6 +62,8 @@ extern "C" {
 #define CRZ_PRICE_STEP 5 /* a price is a multiple of this */
 #define CRZ_BASIS_LEAST (-50000) /* yuan per tonne */
 #define CRZ_BASIS_MOST 50000
+#define CRZ_PREMIUM_LEAST (-5000) /* yuan per tonne */
+#define CRZ_PREMIUM_MOST 5000
 #define CRZ_WEIGHT_LEAST 1000 /* kilograms */
 #define CRZ_WEIGHT_MOST 60000
 #define CRZ_AMOUNT_LEAST 1 /* fen, of one call */
@@ -83,7 +85,7 @@ extern "C" {
 enum crz_number {
     CRZ_NUMBER_ACCEPTED = 0,
     CRZ_NUMBER_SHORT_ANSWER = 1,    /* answer buffer under 1,040 bytes; nothing is written */
-    CRZ_NUMBER_BAD_IMAGE = 2,       /* image not 5,696 bytes or not valid */
+    CRZ_NUMBER_BAD_IMAGE = 2,       /* image not 6,208 bytes or not valid */
     CRZ_NUMBER_BAD_CALL = 3,        /* call record not of 24 bytes, of no known kind, or with a field too many */
     CRZ_NUMBER_OUT_OF_RANGE = 4,    /* field out of range */
     CRZ_NUMBER_WRONG_PHASE = 5,     /* morning close in an afternoon; day close in a morning or on day 30,000 */
@@ -91,7 +93,7 @@ enum crz_number {
     CRZ_NUMBER_WRONG_PARTY = 7,     /* another account than the kind asks for; a bid by the seller */
     CRZ_NUMBER_NOT_ABOVE = 8,       /* limit price not above the standing bid */
     CRZ_NUMBER_NO_ASK = 9,          /* market bid, no ask */
-    CRZ_NUMBER_NOTHING_TO_PAY = 10, /* price + basis (limit bid) or ask + basis (market bid) below 1 */
+    CRZ_NUMBER_NOTHING_TO_PAY = 10, /* price (limit bid) or ask (market bid) + basis + premium below 1 */
     CRZ_NUMBER_NO_MONEY = 11,       /* free money under the amount (take out) or the deposit (bids) */
     CRZ_NUMBER_OVER_LIMIT = 12,     /* total would pass 10^15 fen */
     CRZ_NUMBER_OVER_INVOICE = 13    /* invoice above full payment less confirmed */
@@ -107,7 +109,7 @@ enum crz_call_layout {
     CRZ_CALL_DAYS = 4,     /* u8, 0 to 3 */
     CRZ_CALL_ZEROS = 5,    /* three zero bytes */
     CRZ_CALL_AMOUNT = 8,   /* u64: fen, or a price in yuan per tonne */
-    CRZ_CALL_BASIS = 16,   /* i32: yuan per tonne */
+    CRZ_CALL_BASIS = 16,   /* i32: a basis, or a premium where a receipt is registered; yuan per tonne */
     CRZ_CALL_WEIGHT = 20   /* u32: kilograms */
 };
 
@@ -115,7 +117,7 @@ enum crz_call_layout {
 enum crz_kind {
     CRZ_KIND_PAY_IN = 1,           /* account, amount */
     CRZ_KIND_TAKE_OUT = 2,         /* account, amount */
-    CRZ_KIND_REGISTER = 3,         /* account, receipt, weight; an unregistered receipt */
+    CRZ_KIND_REGISTER = 3,         /* account, receipt, premium as basis, weight; an unregistered receipt */
     CRZ_KIND_LIST = 4,             /* account, receipt, contract, days, basis; the owner; idle */
     CRZ_KIND_WITHDRAW_LISTING = 5, /* account, receipt; the seller; listed or bid stands */
     CRZ_KIND_LIMIT_BID = 6,        /* account, receipt, price; not the seller; listed or bid stands */
@@ -177,7 +179,7 @@ enum crz_outcome { /* what the entry's number is; 0 where nothing stands */
     CRZ_OUTCOME_PENALTY = 15         /* fen passed, at most the penalty */
 };
 
-/* ── Image: 5,696 bytes ────────────────────────────────────────────────────────────────────────── */
+/* ── Image: 6,208 bytes ────────────────────────────────────────────────────────────────────────── */
 
 enum crz_image_layout {
     CRZ_IMAGE_ACCOUNT_COUNT = 0,    /* u16, CRZ_ACCOUNT_COUNT */
@@ -218,11 +220,12 @@ enum crz_receipt_layout {
     CRZ_RECEIPT_PRICE = 16,     /* u32, yuan per tonne */
     CRZ_RECEIPT_PENDING = 20,   /* u32: the invoice that waits for its confirmation, fen */
     CRZ_RECEIPT_CONFIRMED = 24, /* u32: sum of confirmed invoices, fen */
-    CRZ_RECEIPT_PAID = 28       /* u32: what confirmed invoices have paid of the rest, fen */
+    CRZ_RECEIPT_PAID = 28,      /* u32: what confirmed invoices have paid of the rest, fen */
+    CRZ_RECEIPT_PREMIUM = 32    /* i32, yuan per tonne: given when the receipt is registered, and kept */
 };
 
-enum crz_state { /* fields filled besides owner, state and weight; all others are zero */
-    CRZ_STATE_IDLE = 0,       /* none; a receipt that is not registered has 32 zero bytes */
+enum crz_state { /* fields filled besides owner, state, weight and premium; all others are zero */
+    CRZ_STATE_IDLE = 0,       /* none; a receipt that is not registered has 36 zero bytes */
     CRZ_STATE_LISTED = 1,     /* seller, contract, days, basis */
     CRZ_STATE_BID_STANDS = 2, /* seller, contract, days, basis, buyer, price */
     CRZ_STATE_STRUCK = 3,     /* seller, contract, days, basis, buyer, price, due */
@@ -236,7 +239,7 @@ enum crz_state { /* fields filled besides owner, state and weight; all others ar
 
 /*
  * Writes a fresh zone's image: no money, no receipts, no asks, day 1, morning.
- * Returns 0, or 2 where image_len is not 5,696; then nothing is written.
+ * Returns 0, or 2 where image_len is not 6,208; then nothing is written.
  */
 uint32_t crz_fresh(uint8_t *image, size_t image_len);
 

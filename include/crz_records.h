@@ -74,7 +74,7 @@ static inline void crz_put_i32(uint8_t *at, int32_t number)
 struct crz_call_fields {
     uint32_t kind, account, receipt, contract, days;
     uint64_t amount; /* fen, or a price in yuan per tonne */
-    int32_t basis;
+    int32_t basis; /* of a listing, or the premium of a receipt that is registered */
     uint32_t weight;
 };
 
@@ -133,9 +133,10 @@ static inline void crz_put_take_out(uint8_t call[CRZ_CALL_LENGTH], uint32_t acco
 }
 
 static inline void crz_put_register(
-    uint8_t call[CRZ_CALL_LENGTH], uint32_t account, uint32_t receipt, uint32_t kilograms)
+    uint8_t call[CRZ_CALL_LENGTH], uint32_t account, uint32_t receipt, uint32_t kilograms, int32_t premium)
 {
     crz_put_plain_call(call, CRZ_KIND_REGISTER, account, receipt, 0);
+    crz_put_i32(call + CRZ_CALL_BASIS, premium);
     crz_put_u32(call + CRZ_CALL_WEIGHT, kilograms);
 }
 
@@ -311,6 +312,7 @@ struct crz_receipt_fields {
     int32_t basis;
     uint32_t price;
     uint32_t pending, confirmed, paid; /* fen */
+    int32_t premium;
 };
 
 static inline struct crz_receipt_fields crz_get_receipt(const uint8_t image[CRZ_IMAGE_LENGTH], uint32_t receipt)
@@ -333,15 +335,19 @@ static inline struct crz_receipt_fields crz_get_receipt(const uint8_t image[CRZ_
     fields.pending = crz_get_u32(record + CRZ_RECEIPT_PENDING);
     fields.confirmed = crz_get_u32(record + CRZ_RECEIPT_CONFIRMED);
     fields.paid = crz_get_u32(record + CRZ_RECEIPT_PAID);
+    fields.premium = crz_get_i32(record + CRZ_RECEIPT_PREMIUM);
     return fields;
 }
 
 /* ── Money of a trade, in fen ──────────────────────────────────────────────────────────────────── */
 
-/* (price + basis) x weight in yuan per tonne and kilograms are tenths of a fen; 0 where price + basis is below 1. */
+/*
+ * (price + basis + premium) x weight in yuan per tonne and kilograms are tenths of a fen; 0 where the sum of the three
+ * is below 1.
+ */
 static inline uint64_t crz_full_payment(const struct crz_receipt_fields *receipt)
 {
-    int64_t yuan_per_tonne = (int64_t)receipt->price + receipt->basis;
+    int64_t yuan_per_tonne = (int64_t)receipt->price + receipt->basis + receipt->premium;
     return yuan_per_tonne < 1 ? 0 : ((uint64_t)yuan_per_tonne * receipt->weight + 5) / 10;
 }
 
