@@ -1,8 +1,8 @@
--- The code's sum of price and basis, in 64 bits, is the sum.
+-- The code's sum of price, basis and premium, in 64 bits, is the sum.
 -- Assumes nothing.
 use mathlib.Core.Path.{_≡_, refl, _∙_}
 use mathlib.Core.Bool.{Bool, true, false, cond}
-use Prim.Native.Nat.{ℕ, suc, _+_, _-_, _^_, _<_}
+use Prim.Native.Nat.{ℕ, suc, _+_, _-_, _^_, _≤_, _<_}
 use native.Mathlib.Omega.{arith}
 use borrow.Author.Tests.{ltb-true, ltb-false, le-leb}
 use lib.Dec.{T, ltb}
@@ -12,30 +12,59 @@ use mir.Syntax.{w32, w64}
 use mir.Val.{Fits, SFits, toZ, ofZ}
 use mir.Facts.{toZ-ofZ, toZ-pos, sfits-widen}
 use Rattle.units.specs.declared.Basis.{Basis}
+use Rattle.units.specs.declared.Premium.{Premium}
 use Rattle.units.specs.declared.YuanPerTonne.{YuanPerTonne}
 use Rattle.units.specs.Payments.{atLeast0, unitPrice}
 use Rattle.units.specs.Laws.Bounds.{unit-at-most}
 
-sub-fits : (p n : ℕ) (b : Bool) → ltb p (suc n) ≡ b → p < 2 ^ 32 → n < 2 ^ 31 → SFits w64 (cond b (negsuc (suc n - suc p)) (pos (p - suc n)))
-sub-fits p n true e hp hn = record { sfits = omega (arith, ltb-true p (suc n) e) }
-sub-fits p n false e hp hn = record { sfits = omega (arith, ltb-false p (suc n) e) }
+sub-mag : (m n : ℕ) (b : Bool) → mag (cond b (negsuc (suc n - suc m)) (pos (m - suc n))) ≤ m + n
+sub-mag m n true = omega arith
+sub-mag m n false = omega arith
 
-sum-fits : (p : ℕ) (b : ℤ) → p < 2 ^ 32 → SFits w32 b → SFits w64 (pos p +ℤ b)
-sum-fits p (pos n) hp s = record { sfits = omega (arith, s .sfits) }
-sum-fits p (negsuc n) hp s = sub-fits p n (ltb p (suc n)) refl hp (s .sfits)
+-- a sum is no larger than its parts together; -(m + 1) and -(n + 1) take one more
+sum-mag : (x y : ℤ) → mag (x +ℤ y) ≤ suc (mag x + mag y)
+sum-mag (pos m) (pos n) = omega arith
+sum-mag (pos m) (negsuc n) = omega (arith, sub-mag m n (ltb m (suc n)))
+sum-mag (negsuc m) (pos n) = omega (arith, sub-mag n m (ltb n (suc m)))
+sum-mag (negsuc m) (negsuc n) = omega arith
 
-module _ (p : ℕ) (b : ℤ) (hp : Fits w32 p) (s : SFits w32 b) where
+-- a signed number of 32 bits, widened by the code, is that number
+module _ (b : ℤ) (s : SFits w32 b) where
+  abbrev wide : ℤ
+  wide = toZ w64 (ofZ w64 (toZ w32 (ofZ w32 b)))
+
   pub cast-fits : SFits w64 (toZ w32 (ofZ w32 b))
   cast-fits = rw (toZ-ofZ s) (sfits-widen {w = w32} {w′ = w64} tt s)
 
-  held : toZ w64 p +ℤ toZ w64 (ofZ w64 (toZ w32 (ofZ w32 b))) ≡ pos p +ℤ b
-  held = let h : p < 2 ^ 63 = omega (arith, hp .fits) in rw (toZ-ofZ cast-fits, toZ-ofZ s, toZ-pos w64 h)
+  wide-is : wide ≡ b
+  wide-is = rw (toZ-ofZ cast-fits, toZ-ofZ s)
 
-  pub add-fits : SFits w64 (toZ w64 p +ℤ toZ w64 (ofZ w64 (toZ w32 (ofZ w32 b))))
-  add-fits = rw held (sum-fits p b (hp .fits) s)
+module _ (p : ℕ) (b : ℤ) (hp : Fits w32 p) (s : SFits w32 b) where
+  abbrev listed : ℤ
+  listed = toZ w64 p +ℤ wide b s
 
-  pub add-held : toZ w64 (ofZ w64 (toZ w64 p +ℤ toZ w64 (ofZ w64 (toZ w32 (ofZ w32 b))))) ≡ pos p +ℤ b
-  add-held = toZ-ofZ add-fits ∙ held
+  listed-is : listed ≡ pos p +ℤ b
+  listed-is = let h : p < 2 ^ 63 = omega (arith, hp .fits) in rw (wide-is b s, toZ-pos w64 h)
+
+  -- price + basis
+  pub listed-fits : SFits w64 listed
+  listed-fits = rw listed-is (record { sfits = omega (arith, sum-mag (pos p) b, hp .fits, s .sfits) })
+
+  -- with the premium
+  module _ (m : ℤ) (t : SFits w32 m) where
+    abbrev graded : ℤ
+    graded = toZ w64 (ofZ w64 listed) +ℤ wide m t
+
+    graded-is : graded ≡ pos p +ℤ b +ℤ m
+    graded-is = rw (toZ-ofZ listed-fits, listed-is, wide-is m t)
+
+    pub graded-fits : SFits w64 graded
+    graded-fits =
+        let both : ℤ = pos p +ℤ b in
+        rw graded-is (record { sfits = omega (arith, sum-mag (pos p) b, sum-mag both m, hp .fits, s .sfits, t .sfits) })
+
+    pub graded-held : toZ w64 (ofZ w64 graded) ≡ pos p +ℤ b +ℤ m
+    graded-held = toZ-ofZ graded-fits ∙ graded-is
 
 -- ── a sum as an unsigned number ────────────────────────────────────────────────────────────────
 
@@ -51,6 +80,13 @@ mag-le : (b : ℤ) → leZ b (pos (mag b)) ≡ true
 mag-le (pos n) = le-leb n n (omega arith)
 mag-le (negsuc n) = refl
 
--- the sum of any price and any basis of the code's widths
-pub unit-small : (price : YuanPerTonne) (basis : Basis) → price .0 < 2 ^ 32 → SFits w32 (basis .0) → atLeast0 (unitPrice price basis) < 2 ^ 33
-unit-small price basis hp s = omega (arith, s .sfits, unit-at-most price basis (mag (basis .0)) (mag-le (basis .0)))
+-- the sum of any price, basis and premium of the code's widths
+pub unit-small : (price : YuanPerTonne) (basis : Basis) (premium : Premium) → price .0 < 2 ^ 32 → SFits w32 (basis .0) → SFits w32 (premium .0) →
+    atLeast0 (unitPrice price basis premium) < 2 ^ 33
+unit-small price basis premium hp s t =
+    omega (
+      arith,
+      s .sfits,
+      t .sfits,
+      unit-at-most price basis premium (mag (basis .0)) (mag (premium .0)) (mag-le (basis .0)) (mag-le (premium .0)),
+    )

@@ -1,14 +1,23 @@
--- The money of 01's bench examples 1, 2, 3 and 6, as one fact, by computing.
+-- The money of 01's bench examples 1, 2, 3 and 6, with premium 0, and of premiums at both ends, as one fact, by computing.
 -- Assumes nothing.
+use mathlib.Core.Bool.{Bool, true, false}
 use mathlib.Core.Path.{_≡_, refl}
 use Prim.Native.Nat.{ℕ}
 use lib.IntN.{ℤ, pos, negsuc}
 use Rattle.units.specs.declared.Fen.{Fen}
-use Rattle.units.specs.Payments.{fen, unitPrice, fullPayment, firstPayment}
+use Rattle.units.specs.Payments.{fen, unitPrice, payable, fullPayment, firstPayment}
 
--- full payment at a price, a basis and a weight
+-- full payment at a price, a basis, a premium and a weight
+abbrev graded : ℕ → ℤ → ℤ → ℕ → Fen
+graded price basis premium weight = fullPayment (record { 0 = price }) (record { 0 = basis }) (record { 0 = premium }) (record { 0 = weight })
+
+-- without a premium
 abbrev full : ℕ → ℤ → ℕ → Fen
-full price basis weight = fullPayment (record { 0 = price }) (record { 0 = basis }) (record { 0 = weight })
+full price basis weight = graded price basis (pos 0) weight
+
+-- whether there is anything to pay
+abbrev pays : ℕ → ℤ → ℤ → Bool
+pays price basis premium = payable (record { 0 = price }) (record { 0 = basis }) (record { 0 = premium })
 
 pub record MoneyExamples : Type 0 where
   -- 1: 41,237 kilograms at 15,000 with basis 300
@@ -22,9 +31,19 @@ pub record MoneyExamples : Type 0 where
   pub first-3 : firstPayment (full 5 (negsuc 3) 1000) ≡ fen 80
   -- 6: every field at its upper end
   pub full-6 : full 200000 (pos 50000) 60000 ≡ fen 1500000000
+  -- example 1 with the lowest premium and with the highest
+  pub full-down : graded 15000 (pos 300) (negsuc 4999) 41237 ≡ fen 42474110
+  pub full-up : graded 15000 (pos 300) (pos 5000) 41237 ≡ fen 83711110
+  -- the most that can be paid
+  pub full-most : graded 200000 (pos 50000) (pos 5000) 60000 ≡ fen 1530000000
+  -- the sum of the three at 1 and at 0, by a premium of either sign
+  pub one-down : pays 5005 (negsuc 3) (negsuc 4999) ≡ true
+  pub none-down : pays 5005 (negsuc 4) (negsuc 4999) ≡ false
+  pub one-up : pays 5 (negsuc 5003) (pos 5000) ≡ true
+  pub none-up : pays 5 (negsuc 5004) (pos 5000) ≡ false
 
 pub money-examples : MoneyExamples
-unfolding fullPayment unitPrice firstPayment
+unfolding fullPayment payable unitPrice firstPayment
 money-examples =
     record {
       full-1 = refl;
@@ -34,4 +53,11 @@ money-examples =
       full-3 = refl;
       first-3 = refl;
       full-6 = refl;
+      full-down = refl;
+      full-up = refl;
+      full-most = refl;
+      one-down = refl;
+      none-down = refl;
+      one-up = refl;
+      none-up = refl;
     }

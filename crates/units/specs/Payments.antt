@@ -1,4 +1,4 @@
--- The money of a trade (01 Money). Each unit is a type of its own, declared in src/lib.rt, so that no price can stand
+-- The money of a trade (01 Money, with the premium of 02 2/12). Each unit is a type of its own, declared in src/lib.rt, so that no price can stand
 -- where money is asked for.
 -- Assumes nothing.
 use mathlib.Core.Bool.{Bool, cond}
@@ -9,6 +9,7 @@ use lib.Signed.{leZ}
 use Rattle.units.specs.declared.Basis.{Basis}
 use Rattle.units.specs.declared.Fen.{Fen}
 use Rattle.units.specs.declared.Kilograms.{Kilograms}
+use Rattle.units.specs.declared.Premium.{Premium}
 use Rattle.units.specs.declared.YuanPerTonne.{YuanPerTonne}
 
 -- a number of fen as money
@@ -17,13 +18,13 @@ fen n = record { 0 = n }
 
 -- ── What a tonne costs ─────────────────────────────────────────────────────────────────────────
 
--- price + basis, exact and signed
-unfoldable pub unitPrice : YuanPerTonne → Basis → ℤ
-unitPrice price basis = pos (price .0) +ℤ basis .0
+-- price + basis + premium, exact and signed (02 2/12)
+unfoldable pub unitPrice : YuanPerTonne → Basis → Premium → ℤ
+unitPrice price basis premium = pos (price .0) +ℤ basis .0 +ℤ premium .0
 
 -- a trade needs at least 1 yuan per tonne (01 Image 15, Answers 21)
-unfoldable pub payable : YuanPerTonne → Basis → Bool
-payable price basis = leZ (pos 1) (unitPrice price basis)
+unfoldable pub payable : YuanPerTonne → Basis → Premium → Bool
+payable price basis premium = leZ (pos 1) (unitPrice price basis premium)
 
 -- A sum as a natural number. Below 0 it counts as 0; no trade of a valid zone has such a sum (`unit-at-least`, Laws/Bounds).
 abbrev pub atLeast0 : ℤ → ℕ
@@ -32,9 +33,9 @@ atLeast0 (negsuc n) = 0
 
 -- ── The payments ───────────────────────────────────────────────────────────────────────────────
 
--- full payment (01 Money 2): a kilogram is a thousandth of a tonne and a yuan 100 fen, so a tenth of the product, rounded half up
-unfoldable pub fullPayment : YuanPerTonne → Basis → Kilograms → Fen
-fullPayment price basis weight = fen ((atLeast0 (unitPrice price basis) * weight .0 + 5) / 10)
+-- full payment (01 Money 2, 02 2/12): a kilogram is a thousandth of a tonne and a yuan 100 fen, so a tenth of the product, rounded half up
+unfoldable pub fullPayment : YuanPerTonne → Basis → Premium → Kilograms → Fen
+fullPayment price basis premium weight = fen ((atLeast0 (unitPrice price basis premium) * weight .0 + 5) / 10)
 
 -- first payment (01 Money 3): 80 percent, the fraction dropped
 unfoldable pub firstPayment : Fen → Fen

@@ -61,13 +61,23 @@ isPrice n = within 5 mostPrice n && eqb (n % 5) 0
 abbrev pub isAsk : ℕ → Bool
 isAsk n = eqb n 0 || isPrice n
 
--- the ends of a basis
+-- a signed number from -most to most; `negsuc n` is -(n + 1), and no most is 0
+abbrev pub upOrDown : ℕ → ℤ → Bool
+upOrDown most z = leZ (negsuc (most - 1)) z && leZ z (pos most)
+
+-- the ends of a basis, yuan per tonne
 abbrev pub mostBasis : ℕ
 mostBasis = 50000
 
--- yuan per tonne, up or down; `negsuc n` is -(n + 1), and the most is not 0
 abbrev pub isBasis : ℤ → Bool
-isBasis b = leZ (negsuc (mostBasis - 1)) b && leZ b (pos mostBasis)
+isBasis b = upOrDown mostBasis b
+
+-- the ends of a premium, yuan per tonne (02 2/12)
+abbrev pub mostPremium : ℕ
+mostPremium = 5000
+
+abbrev pub isPremium : ℤ → Bool
+isPremium p = upOrDown mostPremium p
 
 -- the lightest receipt, and the heaviest
 abbrev pub leastWeight : ℕ

@@ -1,7 +1,7 @@
 // Yuan per tonne, fen and kilograms as types, the ranges of numbers, and the money of a trade.
 ghost use mathlib.Core.Path.{_≡_};
 ghost use Prim.Native.Nat.{_+_, _≤_, _<_, _^_};
-ghost use Rattle.units.specs.Ranges.{isZero, isAccount, isReceipt, isContract, isDays, isPrice, isAsk, mostWeight, isBasis, isWeight, isAmount};
+ghost use Rattle.units.specs.Ranges.{isZero, isAccount, isReceipt, isContract, isDays, isPrice, isAsk, mostWeight, isBasis, isPremium, isWeight, isAmount};
 ghost use Rattle.units.specs.Payments.{unitPrice, atLeast0, payable, fullPayment, firstPayment, restPayment, partPayment, deposit, penaltyPassed};
 
 // A price: whole yuan per tonne.
@@ -9,6 +9,9 @@ pub struct YuanPerTonne(pub u32);
 
 // What a listing adds to the price of its reference contract: whole yuan per tonne, of either sign.
 pub struct Basis(pub i32);
+
+// What a receipt adds to it for the grade of its bales, in every sale: whole yuan per tonne, of either sign.
+pub struct Premium(pub i32);
 
 // Money: whole fen.
 pub struct Fen(pub u64);
@@ -85,6 +88,12 @@ pub fn is_basis(x: i32) -> bool
     (-50000 <= x) & (x <= 50000)
 }
 
+pub fn is_premium(x: i32) -> bool
+    ensures { λ r. ⌜ r ≡ isPremium x ⌝ }
+{
+    (-5000 <= x) & (x <= 5000)
+}
+
 pub fn is_weight(x: u32) -> bool
     ensures { λ r. ⌜ r ≡ isWeight x ⌝ }
 {
@@ -99,36 +108,41 @@ pub fn is_amount(x: u64) -> bool
 
 // ── The money of a trade ────────────────────────────────────────────────────────────────────────
 
-// price + basis: at 64 bits the sum never wraps.
-fn unit_price(price: YuanPerTonne, basis: Basis) -> i64
-    ensures { λ r. ⌜ r ≡ unitPrice price basis ⌝ }
+// price + basis + premium: at 64 bits the sum never wraps.
+fn unit_price(price: YuanPerTonne, basis: Basis, premium: Premium) -> i64
+    ensures { λ r. ⌜ r ≡ unitPrice price basis premium ⌝ }
 {
-    (price.0 as i64) + (basis.0 as i64)
+    (price.0 as i64) + (basis.0 as i64) + (premium.0 as i64)
 }
 
-// price + basis as an unsigned number. No valid trade has a sum below 0; the test stands so that the cast loses nothing for any fields.
-fn price_to_pay(price: YuanPerTonne, basis: Basis) -> u64
-    ensures { λ r. ⌜ (r ≡ atLeast0 (unitPrice price basis)) × (r < 2 ^ 33) ⌝ }
+// The sum as an unsigned number. No valid trade has a sum below 0; the test stands so that the cast loses nothing for any fields.
+fn price_to_pay(price: YuanPerTonne, basis: Basis, premium: Premium) -> u64
+    ensures { λ r. ⌜ (r ≡ atLeast0 (unitPrice price basis premium)) × (r < 2 ^ 33) ⌝ }
 {
-    let unit = unit_price(price, basis);
+    let unit = unit_price(price, basis, premium);
     if unit < 0 {
         return 0;
     }
     unit as u64
 }
 
-// Whether a trade at this price has anything to pay: price + basis is at least 1.
-pub fn is_payable(price: YuanPerTonne, basis: Basis) -> bool
-    ensures { λ r. ⌜ r ≡ payable price basis ⌝ }
+// Whether a trade at this price has anything to pay: the sum is at least 1.
+pub fn is_payable(price: YuanPerTonne, basis: Basis, premium: Premium) -> bool
+    ensures { λ r. ⌜ r ≡ payable price basis premium ⌝ }
 {
-    1 <= unit_price(price, basis)
+    1 <= unit_price(price, basis, premium)
 }
 
-pub fn full_payment(price: YuanPerTonne, basis: Basis, weight: Kilograms) -> Fen
+pub fn full_payment(
+    price: YuanPerTonne,
+    basis: Basis,
+    premium: Premium,
+    weight: Kilograms,
+) -> Fen
     requires { ⌜ weight .0 ≤ mostWeight ⌝ }
-    ensures { λ r. ⌜ r ≡ fullPayment price basis weight ⌝ }
+    ensures { λ r. ⌜ r ≡ fullPayment price basis premium weight ⌝ }
 {
-    Fen((price_to_pay(price, basis) * (weight.0 as u64) + 5) / 10)
+    Fen((price_to_pay(price, basis, premium) * (weight.0 as u64) + 5) / 10)
 }
 
 pub fn first_payment(full: Fen) -> Fen

@@ -13,7 +13,7 @@ use Rattle.zone.specs.declared.Record.{Record}
 
 -- full payment of the lot's trade (01 Money 2)
 unfoldable pub full : Record → Fen
-full r = fullPayment (r .price) (r .basis) (r .weight)
+full r = fullPayment (r .price) (r .basis) (r .premium) (r .weight)
 
 -- the rest after its first payment (01 Money 4)
 abbrev pub rest : Record → Fen

@@ -1,8 +1,9 @@
--- A receipt as a value and as its record (01 Image 4, 5, 7 to 14).
+-- A receipt as a value and as its record (01 Image 4, 5, 7 to 14; the premium of 02 2/12).
 -- Assumes nothing.
 use Prim.Native.Nat.{ℕ, zero, suc}
 use lib.IntN.{pos}
 use Rattle.units.specs.declared.Kilograms.{Kilograms}
+use Rattle.units.specs.declared.Premium.{Premium}
 use Rattle.units.specs.Payments.{fen}
 use Rattle.zone.specs.declared.Bid.{Bid}
 use Rattle.zone.specs.declared.Invoices.{Invoices}
@@ -26,8 +27,8 @@ abbrev pub noInvoices : Invoices
 noInvoices = record { pending = fen 0; confirmed = fen 0; paid = fen 0 }
 
 -- a record from the groups of its fields
-abbrev pub flatRecord : ℕ → Kilograms → ℕ → Listing → Bid → ℕ → Invoices → Record
-flatRecord owner weight state l b due i =
+abbrev pub flatRecord : ℕ → Kilograms → Premium → ℕ → Listing → Bid → ℕ → Invoices → Record
+flatRecord owner weight premium state l b due i =
     record {
       owner = owner;
       state = state;
@@ -42,22 +43,23 @@ flatRecord owner weight state l b due i =
       pending = i .pending;
       confirmed = i .confirmed;
       paid = i .paid;
+      premium = premium;
     }
 
--- The state table: what each state fills besides owner and weight; all else is zero.
-abbrev pub recordAs : ℕ → Kilograms → Lot → Record
-recordAs o w Idle = flatRecord o w 0 (noListing 0) (noBid 0) 0 noInvoices
-recordAs o w (Listed l) = flatRecord o w 1 l (noBid 0) 0 noInvoices
-recordAs o w (BidStands l b) = flatRecord o w 2 l b 0 noInvoices
-recordAs o w (Struck t) = flatRecord o w 3 (t .listing) (t .bid) (t .due) noInvoices
-recordAs o w (Lodged t) = flatRecord o w 4 (t .listing) (t .bid) (t .due) noInvoices
-recordAs o w (Settled t) = flatRecord o w 5 (t .listing) (t .bid) (t .due) noInvoices
-recordAs o w (FirstPaid t i) = flatRecord o w 6 (t .listing) (t .bid) (t .due) i
-recordAs o w (PenaltyDue s b d) = flatRecord o w 7 (noListing s) (noBid b) d noInvoices
+-- The state table: what each state fills besides owner, weight and premium; all else is zero.
+abbrev pub recordAs : ℕ → Kilograms → Premium → Lot → Record
+recordAs o w p Idle = flatRecord o w p 0 (noListing 0) (noBid 0) 0 noInvoices
+recordAs o w p (Listed l) = flatRecord o w p 1 l (noBid 0) 0 noInvoices
+recordAs o w p (BidStands l b) = flatRecord o w p 2 l b 0 noInvoices
+recordAs o w p (Struck t) = flatRecord o w p 3 (t .listing) (t .bid) (t .due) noInvoices
+recordAs o w p (Lodged t) = flatRecord o w p 4 (t .listing) (t .bid) (t .due) noInvoices
+recordAs o w p (Settled t) = flatRecord o w p 5 (t .listing) (t .bid) (t .due) noInvoices
+recordAs o w p (FirstPaid t i) = flatRecord o w p 6 (t .listing) (t .bid) (t .due) i
+recordAs o w p (PenaltyDue s b d) = flatRecord o w p 7 (noListing s) (noBid b) d noInvoices
 
 -- the record of a receipt
 unfoldable pub recordOf : Receipt → Record
-recordOf r = recordAs (r .owner) (r .weight) (r .lot)
+recordOf r = recordAs (r .owner) (r .weight) (r .premium) (r .lot)
 
 -- the listing in a record's fields
 abbrev pub listingOf : Record → Listing
@@ -88,4 +90,4 @@ lotAt (suc (suc (suc (suc (suc (suc (suc n))))))) r = PenaltyDue (r .seller) (r 
 
 -- the receipt of a record
 unfoldable pub receiptOf : Record → Receipt
-receiptOf r = record { owner = r .owner; weight = r .weight; lot = lotAt (r .state) r }
+receiptOf r = record { owner = r .owner; weight = r .weight; premium = r .premium; lot = lotAt (r .state) r }

@@ -1,15 +1,16 @@
--- When an image is valid (01 Image 7 to 15), said of the fields that an image or a zone has.
+-- When an image is valid (01 Image 7 to 15, with the premium of 02 2/12), said of the fields that an image or a zone has.
 -- Assumes nothing.
 use mathlib.Core.Bool.{Bool, true, false, cond, not, _&&_, _||_}
 use mathlib.Core.List.{List, [], _∷_}
 use mathlib.Core.Path.{_≡_}
 use Prim.Native.Nat.{ℕ, suc, _+_, _*_, _/_}
 use lib.Dec.{eqb, leb, ltb}
+use lib.IntN.{pos}
 use lib.ListN.{length, replicate}
 use Rattle.units.specs.declared.Fen.{Fen}
 use Rattle.units.specs.declared.YuanPerTonne.{YuanPerTonne}
 use Rattle.units.specs.Payments.{fen, payable}
-use Rattle.units.specs.Ranges.{within, isZero, accountCount, receiptCount, contractCount, isAccount, isContract, isDays, isPrice, isAsk, isBasis, isWeight, moneyLimit, lastDay, lastDue}
+use Rattle.units.specs.Ranges.{within, isZero, accountCount, receiptCount, contractCount, isAccount, isContract, isDays, isPrice, isAsk, isBasis, isPremium, isWeight, moneyLimit, lastDay, lastDue}
 use Rattle.zone.specs.declared.Account.{Account}
 use Rattle.zone.specs.declared.Lot.the-variants.{Idle}
 use Rattle.zone.specs.declared.Receipt.{Receipt}
@@ -33,7 +34,7 @@ unfoldable pub blank : Record → Bool
 blank r =
     eqb (r .owner) 0 && eqb (r .state) 0 && eqb (r .seller) 0 && eqb (r .buyer) 0 && eqb (r .contract) 0 && eqb (r .days) 0
     && eqb (r .due) 0 && eqb (r .weight .0) 0 && eqb (r .price .0) 0 && eqb (r .pending .0) 0 && eqb (r .confirmed .0) 0
-    && eqb (r .paid .0) 0 && isZero (r .basis .0)
+    && eqb (r .paid .0) 0 && isZero (r .basis .0) && isZero (r .premium .0)
 
 -- the seller in states 1 to 7; contract, D and basis in 1 to 6
 unfoldable pub listingOk : Record → Bool
@@ -49,7 +50,7 @@ bidOk r =
     filled (within 2 7 (r .state)) (isAccount (r .buyer)) (eqb (r .buyer) 0)
     && filled (within 2 6 (r .state)) (isPrice (r .price .0)) (eqb (r .price .0) 0)
     && inStates (within 2 7 (r .state)) (not (eqb (r .buyer) (r .seller)))
-    && inStates (within 2 6 (r .state)) (payable (r .price) (r .basis))
+    && inStates (within 2 6 (r .state)) (payable (r .price) (r .basis) (r .premium))
 
 -- the due day in states 3 to 7
 unfoldable pub dueOk : Record → Bool
@@ -75,9 +76,11 @@ noInvoicesOk r = eqb (r .pending .0) 0 && eqb (r .confirmed .0) 0 && eqb (r .pai
 unfoldable pub invoicesOk : Record → Bool
 invoicesOk r = cond (eqb (r .state) 6) (invoicesWithin r) (noInvoicesOk r)
 
--- a registered receipt: one of the eight states, an owner, a weight, and what the state fills beside invoices
+-- a registered receipt: one of the eight states, an owner, a weight and a premium, and what the state fills beside invoices
 unfoldable pub fieldsOk : Record → Bool
-fieldsOk r = leb (r .state) 7 && isAccount (r .owner) && isWeight (r .weight .0) && listingOk r && bidOk r && dueOk r && ownerOk r
+fieldsOk r =
+    leb (r .state) 7 && isAccount (r .owner) && isWeight (r .weight .0) && isPremium (r .premium .0) && listingOk r && bidOk r && dueOk r
+    && ownerOk r
 
 -- a record without an owner is blank, one with an owner has what its state asks (01 Image 8, 15)
 unfoldable pub recordValid : Record → Bool
@@ -124,7 +127,7 @@ emptyAccount = record { free = fen 0; frozen = fen 0 }
 
 -- what stands in the place of a receipt that nobody has registered
 abbrev pub noReceipt : Receipt
-noReceipt = record { owner = 0; weight = record { 0 = 0 }; lot = Idle }
+noReceipt = record { owner = 0; weight = record { 0 = 0 }; premium = record { 0 = pos 0 }; lot = Idle }
 
 -- none
 abbrev pub noAsk : YuanPerTonne

@@ -6,6 +6,7 @@ use units::Basis;
 use units::CONTRACTS;
 use units::Fen;
 use units::Kilograms;
+use units::Premium;
 use units::RECEIPTS;
 use units::YuanPerTonne;
 
@@ -71,9 +72,11 @@ pub enum Lot {
     PenaltyDue { seller: u8, buyer: u8, due: u16 },
 }
 
+// The premium is the receipt's, as its weight is: no sale changes it.
 pub struct Receipt {
     pub owner: u8,
     pub weight: Kilograms,
+    pub premium: Premium,
     pub lot: Lot,
 }
 
@@ -101,6 +104,7 @@ pub struct Record {
     pub pending: Fen,
     pub confirmed: Fen,
     pub paid: Fen,
+    pub premium: Premium,
 }
 
 // From whom a lot holds money, and how much.
@@ -144,13 +148,14 @@ pub fn no_invoices() -> Invoices
 fn flat_record(
     owner: u8,
     weight: Kilograms,
+    premium: Premium,
     state: u8,
     l: Listing,
     b: Bid,
     due: u16,
     i: Invoices,
 ) -> Record
-    ensures { λ r. ⌜ r ≡ flatRecord owner weight state l b due i ⌝ }
+    ensures { λ r. ⌜ r ≡ flatRecord owner weight premium state l b due i ⌝ }
 {
     let basis = l.basis;
     let price = b.price;
@@ -171,16 +176,24 @@ fn flat_record(
         pending: pending,
         confirmed: confirmed,
         paid: paid,
+        premium: premium,
     }
 }
 
 // A trade and its invoices, in one of the states 3 to 6.
-fn trade_record(owner: u8, weight: Kilograms, state: u8, t: Trade, i: Invoices) -> Record
-    ensures { λ r. ⌜ r ≡ flatRecord owner weight state (t .listing) (t .bid) (t .due) i ⌝ }
+fn trade_record(
+    owner: u8,
+    weight: Kilograms,
+    premium: Premium,
+    state: u8,
+    t: Trade,
+    i: Invoices,
+) -> Record
+    ensures { λ r. ⌜ r ≡ flatRecord owner weight premium state (t .listing) (t .bid) (t .due) i ⌝ }
 {
     let l = t.listing;
     let b = t.bid;
-    flat_record(owner, weight, state, l, b, t.due, i)
+    flat_record(owner, weight, premium, state, l, b, t.due, i)
 }
 
 pub fn record_of(r: Receipt) -> Record
@@ -188,21 +201,23 @@ pub fn record_of(r: Receipt) -> Record
 {
     let owner = r.owner;
     let weight = r.weight;
+    let premium = r.premium;
     let lot = r.lot;
     let none = no_invoices();
     match lot {
-        Lot::Idle => flat_record(owner, weight, STATE_IDLE, no_listing(0), no_bid(0), 0, none),
-        Lot::Listed(l) => flat_record(owner, weight, STATE_LISTED, l, no_bid(0), 0, none),
-        Lot::BidStands(l, b) => flat_record(owner, weight, STATE_BID_STANDS, l, b, 0, none),
-        Lot::Struck(t) => trade_record(owner, weight, STATE_STRUCK, t, none),
-        Lot::Lodged(t) => trade_record(owner, weight, STATE_LODGED, t, none),
-        Lot::Settled(t) => trade_record(owner, weight, STATE_SETTLED, t, none),
-        Lot::FirstPaid(t, i) => trade_record(owner, weight, STATE_FIRST_PAID, t, i),
+        Lot::Idle => flat_record(owner, weight, premium, STATE_IDLE, no_listing(0), no_bid(0), 0, none),
+        Lot::Listed(l) => flat_record(owner, weight, premium, STATE_LISTED, l, no_bid(0), 0, none),
+        Lot::BidStands(l, b) => flat_record(owner, weight, premium, STATE_BID_STANDS, l, b, 0, none),
+        Lot::Struck(t) => trade_record(owner, weight, premium, STATE_STRUCK, t, none),
+        Lot::Lodged(t) => trade_record(owner, weight, premium, STATE_LODGED, t, none),
+        Lot::Settled(t) => trade_record(owner, weight, premium, STATE_SETTLED, t, none),
+        Lot::FirstPaid(t, i) => trade_record(owner, weight, premium, STATE_FIRST_PAID, t, i),
         Lot::PenaltyDue { seller, buyer, due } => {
             let l = no_listing(seller);
             flat_record(
                 owner,
                 weight,
+                premium,
                 STATE_PENALTY_DUE,
                 l,
                 no_bid(buyer),
@@ -266,6 +281,7 @@ pub fn receipt_of(r: Record) -> Receipt
 {
     let state = r.state;
     let weight = r.weight;
+    let premium = r.premium;
     let lot = match state {
         STATE_IDLE => Lot::Idle,
         STATE_LISTED => Lot::Listed(listing_of(r)),
@@ -283,6 +299,7 @@ pub fn receipt_of(r: Record) -> Receipt
     Receipt {
         owner: r.owner,
         weight: weight,
+        premium: premium,
         lot: lot,
     }
 }

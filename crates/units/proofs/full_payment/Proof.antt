@@ -10,21 +10,21 @@ use Rattle.units.proofs.full_payment.Tie as tie
 price-to-pay-requires : tie.Need-price-to-pay-requires
 price-to-pay-requires c κs = search needs
 
-cast-t5 : tie.Need-cast-t5
-cast-t5 c = search needs
+cast-t6 : tie.Need-cast-t6
+cast-t6 c = search needs
 
 product : (c : tie.After-struct-known) → c .before .price-to-pay .result * c .before .before .args .weight .0 ≤ 2 ^ 33 * 60000
 product c = mul-le-mul (le-of-lt (c .before .price-to-pay .ensures .1)) (c .before .before .pre)
 
-mul-t6 : tie.Need-mul-t6
-mul-t6 c = omega (arith, product c)
+mul-t7 : tie.Need-mul-t7
+mul-t7 c = omega (arith, product c)
 
-add-t7 : tie.Need-add-t7
-add-t7 c = omega (arith, product c)
+add-t8 : tie.Need-add-t8
+add-t8 c = omega (arith, product c)
 
 returns : tie.Need-returns
 unfolding fullPayment
 returns c = ap (λ (u : ℕ). fen ((u * c .before .before .args .weight .0 + 5) / 10)) (c .before .price-to-pay .ensures .0)
 
 pub full-payment-spec : {M : Type 1} → statement M
-full-payment-spec = tie.close (tie.spec price-to-pay-requires cast-t5 mul-t6 add-t7 returns)
+full-payment-spec = tie.close (tie.spec price-to-pay-requires cast-t6 mul-t7 add-t8 returns)

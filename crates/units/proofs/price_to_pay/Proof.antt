@@ -17,11 +17,11 @@ unit-price-requires : tie.Need-unit-price-requires
 unit-price-requires c κs = search needs
 
 -- the code's sum is the definition's
-kept : (c : tie.After-unit-price) → toZ w64 (ofZ w64 (c .unit-price .result)) ≡ unitPrice (c .before .args .price) (c .before .args .basis)
+kept : (c : tie.After-unit-price) → toZ w64 (ofZ w64 (c .unit-price .result)) ≡ unitPrice (c .before .args .price) (c .before .args .basis) (c .before .args .premium)
 kept c = toZ-ofZ {z = c .unit-price .result} (record { sfits = c .unit-price .ok }) ∙ c .unit-price .ensures
 
 unit : tie.Start → ℤ
-unit c = unitPrice (c .args .price) (c .args .basis)
+unit c = unitPrice (c .args .price) (c .args .basis) (c .args .premium)
 
 natural : (c : tie.Else1) → T (nonNeg (unit (c .before .before))) × (natAbs (unit (c .before .before)) ≡ atLeast0 (unit (c .before .before)))
 unfolding unit
@@ -31,11 +31,11 @@ small : (c : tie.Else1) → natAbs (unit (c .before .before)) < 2 ^ 33
 unfolding unit
 small c =
     let a = c .before .before .args in
-    rw (natural c .1) (unit-small (a .price) (a .basis) (search needs) (search needs))
+    rw (natural c .1) (unit-small (a .price) (a .basis) (a .premium) (search needs) (search needs) (search needs))
 
 returns : tie.Need-returns
 returns c = (
-  nothing-below-0 (unitPrice (c .before .before .args .price) (c .before .before .args .basis))
+  nothing-below-0 (unitPrice (c .before .before .args .price) (c .before .before .args .basis) (c .before .before .args .premium))
       (rw (kept (c .before)) at (c .if1 .taken)),
   omega arith,
 )

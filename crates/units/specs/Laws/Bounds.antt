@@ -13,29 +13,47 @@ use lib.Signed.{leZ}
 use Rattle.units.specs.declared.Basis.{Basis}
 use Rattle.units.specs.declared.Fen.{Fen}
 use Rattle.units.specs.declared.Kilograms.{Kilograms}
+use Rattle.units.specs.declared.Premium.{Premium}
 use Rattle.units.specs.declared.YuanPerTonne.{YuanPerTonne}
-use Rattle.units.specs.Ranges.{mostPrice, mostBasis, mostWeight, leastWeight}
+use Rattle.units.specs.Ranges.{mostPrice, mostBasis, mostPremium, mostWeight, leastWeight}
 use Rattle.units.specs.Payments.{unitPrice, payable, atLeast0, fullPayment, firstPayment, restPayment, partPayment, penaltyPassed, perReceipt}
 
--- ── price + basis ──────────────────────────────────────────────────────────────────────────────
+-- ── price + basis + premium ────────────────────────────────────────────────────────────────────
 
 sub-at-most : (p n : ℕ) (b : Bool) → atLeast0 (cond b (negsuc (suc n - suc p)) (pos (p - suc n))) ≤ p
 sub-at-most p n true = omega arith
 sub-at-most p n false = omega arith
 
--- with a basis of at most m, price + basis is at most price + m
-pub unit-at-most : (price : YuanPerTonne) (basis : Basis) (m : ℕ) → leZ (basis .0) (pos m) ≡ true → atLeast0 (unitPrice price basis) ≤ price .0 + m
+-- a sum is at most the sum of what is above 0
+sum-at-most : (x y : ℤ) → atLeast0 (x +ℤ y) ≤ atLeast0 x + atLeast0 y
+sum-at-most (pos m) (pos n) = omega arith
+sum-at-most (pos m) (negsuc n) = omega (arith, sub-at-most m n (ltb m (suc n)))
+sum-at-most (negsuc m) (pos n) = omega (arith, sub-at-most n m (ltb n (suc m)))
+sum-at-most (negsuc m) (negsuc n) = omega arith
+
+natural-at-most : (z : ℤ) (m : ℕ) → leZ z (pos m) ≡ true → atLeast0 z ≤ m
+natural-at-most (pos n) m h = leb-true n m h
+natural-at-most (negsuc n) m h = omega arith
+
+-- with a basis of at most b and a premium of at most p the sum is at most price + b + p
+pub unit-at-most : (price : YuanPerTonne) (basis : Basis) (premium : Premium) (b p : ℕ) → leZ (basis .0) (pos b) ≡ true → leZ (premium .0) (pos p) ≡ true →
+    atLeast0 (unitPrice price basis premium) ≤ price .0 + b + p
 unfolding unitPrice
-unit-at-most price basis m h = go (price .0) (basis .0) h
-  where
-    go : (p : ℕ) (b : ℤ) → leZ b (pos m) ≡ true → atLeast0 (pos p +ℤ b) ≤ p + m
-    go p (pos n) h = omega (arith, leb-true n m h)
-    go p (negsuc n) h = omega (arith, sub-at-most p n (ltb p (suc n)))
+unit-at-most price basis premium b p hb hp =
+    let listed : ℤ = pos (price .0) +ℤ basis .0 in
+    omega (
+      arith,
+      sum-at-most listed (premium .0),
+      sum-at-most (pos (price .0)) (basis .0),
+      natural-at-most (basis .0) b hb,
+      natural-at-most (premium .0) p hp,
+    )
 
 -- what can be paid is at least 1 yuan per tonne
-pub unit-at-least : (price : YuanPerTonne) (basis : Basis) → payable price basis ≡ true → 1 ≤ atLeast0 (unitPrice price basis)
+pub unit-at-least : (price : YuanPerTonne) (basis : Basis) (premium : Premium) → payable price basis premium ≡ true →
+    1 ≤ atLeast0 (unitPrice price basis premium)
 unfolding payable
-unit-at-least price basis h = go (unitPrice price basis) h
+unit-at-least price basis premium h = go (unitPrice price basis premium) h
   where
     go : (z : ℤ) → leZ (pos 1) z ≡ true → 1 ≤ atLeast0 z
     go (pos n) h = leb-true 1 n h
@@ -43,22 +61,23 @@ unit-at-least price basis h = go (unitPrice price basis) h
 
 -- ── full, first, rest ──────────────────────────────────────────────────────────────────────────
 
--- the largest full payment of fields in range (example 6)
+-- the largest full payment of fields in range (example 6, with the highest premium)
 abbrev pub mostFull : ℕ
-mostFull = ((mostPrice + mostBasis) * mostWeight + 5) / 10
+mostFull = ((mostPrice + mostBasis + mostPremium) * mostWeight + 5) / 10
 
-pub full-at-most : (price : YuanPerTonne) (basis : Basis) (weight : Kilograms) →
-    price .0 ≤ mostPrice → leZ (basis .0) (pos mostBasis) ≡ true → weight .0 ≤ mostWeight → fullPayment price basis weight .0 ≤ mostFull
+pub full-at-most : (price : YuanPerTonne) (basis : Basis) (premium : Premium) (weight : Kilograms) →
+    price .0 ≤ mostPrice → leZ (basis .0) (pos mostBasis) ≡ true → leZ (premium .0) (pos mostPremium) ≡ true → weight .0 ≤ mostWeight →
+    fullPayment price basis premium weight .0 ≤ mostFull
 unfolding fullPayment
-full-at-most price basis weight hp hb hw =
-    let u : atLeast0 (unitPrice price basis) ≤ mostPrice + mostBasis = omega (arith, unit-at-most price basis mostBasis hb) in
+full-at-most price basis premium weight hp hb hm hw =
+    let u : atLeast0 (unitPrice price basis premium) ≤ mostPrice + mostBasis + mostPremium = omega (arith, unit-at-most price basis premium mostBasis mostPremium hb hm) in
     omega (arith, mul-le-mul u hw)
 
--- where price + basis can be paid and the weight is in range, full payment is at least 100 fen (example 3)
-pub full-at-least : (price : YuanPerTonne) (basis : Basis) (weight : Kilograms) →
-    payable price basis ≡ true → leastWeight ≤ weight .0 → 100 ≤ fullPayment price basis weight .0
+-- where the sum can be paid and the weight is in range, full payment is at least 100 fen (example 3)
+pub full-at-least : (price : YuanPerTonne) (basis : Basis) (premium : Premium) (weight : Kilograms) →
+    payable price basis premium ≡ true → leastWeight ≤ weight .0 → 100 ≤ fullPayment price basis premium weight .0
 unfolding fullPayment
-full-at-least price basis weight h hw = omega (arith, mul-le-mul (unit-at-least price basis h) hw)
+full-at-least price basis premium weight h hw = omega (arith, mul-le-mul (unit-at-least price basis premium h) hw)
 
 pub first-le : (full : Fen) → firstPayment full .0 ≤ full .0
 unfolding firstPayment

@@ -59,7 +59,7 @@ returns-7 c = rw (c .before .trade-of4 .ensures, c .invoices-of .ensures, c .bef
 
 returns-8 : tie.Need-returns-8
 unfolding receiptOf
-returns-8 c = rw (from-seven (c .before .before .args .r .state) (c .before .before .args .r) (c .match .rest))
+returns-8 c = rw (from-seven (c .before .before .before .args .r .state) (c .before .before .before .args .r) (c .match .rest))
 
 pub receipt-of-spec : {M : Type 1} → statement M
 receipt-of-spec =

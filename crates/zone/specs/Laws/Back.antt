@@ -6,6 +6,7 @@ use Prim.Native.Nat.{ℕ, zero, suc}
 use native.Mathlib.Decide.{ℕ-discrete}
 use native.Mathlib.Omega.{arith}
 use Rattle.units.specs.declared.Kilograms.{Kilograms}
+use Rattle.units.specs.declared.Premium.{Premium}
 use Rattle.units.specs.Ranges.{within}
 use Rattle.zone.specs.declared.Bid.{Bid}
 use Rattle.zone.specs.declared.Invoices.{Invoices}
@@ -21,48 +22,48 @@ use Rattle.zone.specs.Laws.Facts.{ListingAt, BidAt, Known, known, unregi
 -- a receipt is had back from its record
 pub receipt-back : (r : Receipt) → receiptOf (recordOf r) ≡ r
 unfolding receiptOf recordOf
-receipt-back r = go (r .owner) (r .weight) (r .lot)
+receipt-back r = go (r .owner) (r .weight) (r .premium) (r .lot)
   where
-    go : (o : ℕ) (w : Kilograms) (lot : Lot) → receiptOf (recordAs o w lot) ≡ record { owner = o; weight = w; lot = lot }
-    go o w Idle = refl
-    go o w (Listed l) = refl
-    go o w (BidStands l b) = refl
-    go o w (Struck t) = refl
-    go o w (Lodged t) = refl
-    go o w (Settled t) = refl
-    go o w (FirstPaid t i) = refl
-    go o w (PenaltyDue s b d) = refl
+    go : (o : ℕ) (w : Kilograms) (p : Premium) (lot : Lot) → receiptOf (recordAs o w p lot) ≡ record { owner = o; weight = w; premium = p; lot = lot }
+    go o w p Idle = refl
+    go o w p (Listed l) = refl
+    go o w p (BidStands l b) = refl
+    go o w p (Struck t) = refl
+    go o w p (Lodged t) = refl
+    go o w p (Settled t) = refl
+    go o w p (FirstPaid t i) = refl
+    go o w p (PenaltyDue s b d) = refl
 
 -- the fields of a listing and of a bid that a state does not fill
 unlisted : (n : ℕ) (l : Listing) (s : ℕ) → within 1 6 n ≡ false → l .seller ≡ s → ListingAt n l → noListing s ≡ l
 unlisted n l s f e L =
     λ j. record { seller = sym e j; contract = sym (L .contract .no f) j; days = sym (L .days .no f) j; basis = record { 0 = sym (L .basis .no f) j } }
 
-unbid : (n : ℕ) (l : Listing) (b : Bid) (s : ℕ) → within 2 6 n ≡ false → b .buyer ≡ s → BidAt n l b → noBid s ≡ b
-unbid n l b s f e B = λ j. record { buyer = sym e j; price = record { 0 = sym (B .price .no f) j } }
+unbid : (n : ℕ) (p : Premium) (l : Listing) (b : Bid) (s : ℕ) → within 2 6 n ≡ false → b .buyer ≡ s → BidAt n p l b → noBid s ≡ b
+unbid n p l b s f e B = λ j. record { buyer = sym e j; price = record { 0 = sym (B .price .no f) j } }
 
 -- a valid record is the record of its lot, by the number of its state
-module _ (o : ℕ) (w : Kilograms) (l : Listing) (b : Bid) (d : ℕ) (i : Invoices) where
+module _ (o : ℕ) (w : Kilograms) (p : Premium) (l : Listing) (b : Bid) (d : ℕ) (i : Invoices) where
   abbrev at : ℕ → Record
-  at n = flatRecord o w n l b d i
+  at n = flatRecord o w p n l b d i
 
-  back : (n : ℕ) → Known (at n) → recordAs o w (lotAt n (at n)) ≡ at n
+  back : (n : ℕ) → Known (at n) → recordAs o w p (lotAt n (at n)) ≡ at n
   back zero K =
       let F = K .fields in
       λ j.
-      flatRecord o w 0 (unlisted 0 l 0 refl (F .listing .seller .no refl) (F .listing) j) (unbid 0 l b 0 refl (F .bid .buyer .no refl) (F .bid) j)
+      flatRecord o w p 0 (unlisted 0 l 0 refl (F .listing .seller .no refl) (F .listing) j) (unbid 0 p l b 0 refl (F .bid .buyer .no refl) (F .bid) j)
       (sym (F .due .no refl) j) (K .invoices .no refl j)
   back (suc zero) K =
       let F = K .fields in
-      λ j. flatRecord o w 1 l (unbid 1 l b 0 refl (F .bid .buyer .no refl) (F .bid) j) (sym (F .due .no refl) j) (K .invoices .no refl j)
-  back (suc (suc zero)) K = λ j. flatRecord o w 2 l b (sym (K .fields .due .no refl) j) (K .invoices .no refl j)
-  back (suc (suc (suc zero))) K = λ j. flatRecord o w 3 l b d (K .invoices .no refl j)
-  back (suc (suc (suc (suc zero)))) K = λ j. flatRecord o w 4 l b d (K .invoices .no refl j)
-  back (suc (suc (suc (suc (suc zero))))) K = λ j. flatRecord o w 5 l b d (K .invoices .no refl j)
+      λ j. flatRecord o w p 1 l (unbid 1 p l b 0 refl (F .bid .buyer .no refl) (F .bid) j) (sym (F .due .no refl) j) (K .invoices .no refl j)
+  back (suc (suc zero)) K = λ j. flatRecord o w p 2 l b (sym (K .fields .due .no refl) j) (K .invoices .no refl j)
+  back (suc (suc (suc zero))) K = λ j. flatRecord o w p 3 l b d (K .invoices .no refl j)
+  back (suc (suc (suc (suc zero)))) K = λ j. flatRecord o w p 4 l b d (K .invoices .no refl j)
+  back (suc (suc (suc (suc (suc zero))))) K = λ j. flatRecord o w p 5 l b d (K .invoices .no refl j)
   back (suc (suc (suc (suc (suc (suc zero)))))) K = refl
   back (suc (suc (suc (suc (suc (suc (suc zero))))))) K =
       let F = K .fields in
-      λ j. flatRecord o w 7 (unlisted 7 l (l .seller) refl refl (F .listing) j) (unbid 7 l b (b .buyer) refl refl (F .bid) j) d (K .invoices .no refl j)
+      λ j. flatRecord o w p 7 (unlisted 7 l (l .seller) refl refl (F .listing) j) (unbid 7 p l b (b .buyer) refl refl (F .bid) j) d (K .invoices .no refl j)
   back (suc (suc (suc (suc (suc (suc (suc (suc n)))))))) K = absurd (omega (arith, K .fields .state))
 
 -- a valid record is had back from its receipt
@@ -72,4 +73,4 @@ record-back r h = go (ℕ-discrete (r .owner) 0)
   where
     go : Dec (r .owner ≡ 0) → recordOf (receiptOf r) ≡ r
     go (yes e) = subst (λ (x : Record). recordOf (receiptOf x) ≡ x) (sym (unregistered r h e)) refl
-    go (no n) = back (r .owner) (r .weight) _ _ (r .due) _ (r .state) (known r h n)
+    go (no n) = back (r .owner) (r .weight) (r .premium) _ _ (r .due) _ (r .state) (known r h n)

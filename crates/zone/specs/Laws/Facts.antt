@@ -11,9 +11,10 @@ use lib.Dec.{eqb}
 use lib.IntN.{pos}
 use Rattle.units.specs.declared.Fen.{Fen}
 use Rattle.units.specs.declared.Kilograms.{Kilograms}
+use Rattle.units.specs.declared.Premium.{Premium}
 use Rattle.units.specs.Payments.{fen, payable}
 use Rattle.units.specs.Laws.Bounds.{paidBound}
-use Rattle.units.specs.Ranges.{within, isPrice, isBasis, accountCount, contractCount, mostPrice, mostWeight, lastDue, mostDays, leastWeight}
+use Rattle.units.specs.Ranges.{within, isPrice, isBasis, isPremium, accountCount, contractCount, mostPrice, mostWeight, lastDue, mostDays, leastWeight}
 use Rattle.zone.specs.declared.Bid.{Bid}
 use Rattle.zone.specs.declared.Invoices.{Invoices}
 use Rattle.zone.specs.declared.Listing.{Listing}
@@ -32,12 +33,12 @@ pub record ListingAt (n : ℕ) (l : Listing) : Type 0 where
   pub days : Filled (within 1 6 n) (l .days ≤ mostDays) (l .days ≡ 0)
   pub basis : Filled (within 1 6 n) (isBasis (l .basis .0) ≡ true) (l .basis .0 ≡ pos 0)
 
--- the fields of a bid in state n, on a listing
-pub record BidAt (n : ℕ) (l : Listing) (b : Bid) : Type 0 where
+-- the fields of a bid in state n, on a listing of a receipt with this premium
+pub record BidAt (n : ℕ) (p : Premium) (l : Listing) (b : Bid) : Type 0 where
   pub buyer : Filled (within 2 7 n) (InRange 1 accountCount (b .buyer)) (b .buyer ≡ 0)
   pub price : Filled (within 2 6 n) (isPrice (b .price .0) ≡ true) (b .price .0 ≡ 0)
   pub differ : within 2 7 n ≡ true → b .buyer ≢ l .seller
-  pub pays : within 2 6 n ≡ true → payable (b .price) (l .basis) ≡ true
+  pub pays : within 2 6 n ≡ true → payable (b .price) (l .basis) p ≡ true
 
 -- whose the receipt is in state n
 pub record OwnerAt (n owner seller buyer : ℕ) : Type 0 where
@@ -50,17 +51,18 @@ pub record InvoicesIn (full : Fen) (i : Invoices) : Type 0 where
   pub pending : i .confirmed .0 + i .pending .0 ≤ full .0
   pub paid : i .paid .0 ≤ paidBound full (i .confirmed .0)
 
--- the owner and the weight of a registered receipt
-pub record Owned (o : ℕ) (w : Kilograms) : Type 0 where
+-- the owner, the weight and the premium of a registered receipt
+pub record Owned (o : ℕ) (w : Kilograms) (p : Premium) : Type 0 where
   pub owner : InRange 1 accountCount o
   pub weight : InRange leastWeight mostWeight (w .0)
+  pub premium : isPremium (p .0) ≡ true
 
 -- what is known of a valid record with an owner, besides its invoices
 pub record FieldsIn (r : Record) : Type 0 where
   pub state : r .state ≤ 7
-  pub owned : Owned (r .owner) (r .weight)
+  pub owned : Owned (r .owner) (r .weight) (r .premium)
   pub listing : ListingAt (r .state) (listingOf r)
-  pub bid : BidAt (r .state) (listingOf r) (bidOf r)
+  pub bid : BidAt (r .state) (r .premium) (listingOf r) (bidOf r)
   pub due : Filled (within 3 7 (r .state)) (InRange 1 lastDue (r .due)) (r .due ≡ 0)
   pub owner : OwnerAt (r .state) (r .owner) (r .seller) (r .buyer)
 
@@ -88,7 +90,7 @@ module _ (r : Record) where
         basis = filled-in _ (λ e. e) (zero-is _) (t1 .1);
       }
 
-  bid-at : bidOk r ≡ true → BidAt (r .state) (listingOf r) (bidOf r)
+  bid-at : bidOk r ≡ true → BidAt (r .state) (r .premium) (listingOf r) (bidOf r)
   unfolding bidOk
   bid-at h =
       let t1 = both _ _ h in
@@ -117,9 +119,10 @@ module _ (r : Record) where
       let t4 = both _ _ (t3 .0) in
       let t5 = both _ _ (t4 .0) in
       let t6 = both _ _ (t5 .0) in
+      let t7 = both _ _ (t6 .0) in
       record {
-        state = leb-true _ _ (t6 .0);
-        owned = record { owner = range-in (t6 .1); weight = range-in (t5 .1) };
+        state = leb-true _ _ (t7 .0);
+        owned = record { owner = range-in (t7 .1); weight = range-in (t6 .1); premium = t5 .1 };
         listing = listing-at (t4 .1);
         bid = bid-at (t3 .1);
         due = filled-in _ range-in (eqb-true _ _) (t2 .1);
@@ -157,7 +160,7 @@ module _ (r : Record) where
       (in-filled _ (le-leb _ _) (eq-eqb _ _) (L .days)))
       (in-filled _ (λ e. e) (is-zero _) (L .basis))
 
-  bid-ok : BidAt (r .state) (listingOf r) (bidOf r) → bidOk r ≡ true
+  bid-ok : BidAt (r .state) (r .premium) (listingOf r) (bidOf r) → bidOk r ≡ true
   unfolding bidOk
   bid-ok B =
       join
@@ -173,10 +176,11 @@ module _ (r : Record) where
   fields-ok : FieldsIn r → fieldsOk r ≡ true
   unfolding fieldsOk dueOk
   fields-ok F =
+      let owned = join (join (join (le-leb _ _ (F .state)) (in-range (F .owned .owner))) (in-range (F .owned .weight))) (F .owned .premium) in
       join
       (join
       (join
-      (join (join (join (le-leb _ _ (F .state)) (in-range (F .owned .owner))) (in-range (F .owned .weight))) (listing-ok (F .listing)))
+      (join owned (listing-ok (F .listing)))
       (bid-ok (F .bid)))
       (in-filled _ in-range (eq-eqb _ _) (F .due)))
       (owner-ok (F .owner))
@@ -224,21 +228,23 @@ module _ (r : Record) where
       let t10 = both _ _ (t9 .0) in
       let t11 = both _ _ (t10 .0) in
       let t12 = both _ _ (t11 .0) in
+      let t13 = both _ _ (t12 .0) in
       λ j.
       record {
-        owner = eqb-true (r .owner) 0 (t12 .0) j;
-        state = eqb-true (r .state) 0 (t12 .1) j;
-        seller = eqb-true (r .seller) 0 (t11 .1) j;
-        buyer = eqb-true (r .buyer) 0 (t10 .1) j;
-        contract = eqb-true (r .contract) 0 (t9 .1) j;
-        days = eqb-true (r .days) 0 (t8 .1) j;
-        due = eqb-true (r .due) 0 (t7 .1) j;
-        weight = record { 0 = eqb-true (r .weight .0) 0 (t6 .1) j };
-        basis = record { 0 = zero-is (r .basis .0) (t1 .1) j };
-        price = record { 0 = eqb-true (r .price .0) 0 (t5 .1) j };
-        pending = fen (eqb-true (r .pending .0) 0 (t4 .1) j);
-        confirmed = fen (eqb-true (r .confirmed .0) 0 (t3 .1) j);
-        paid = fen (eqb-true (r .paid .0) 0 (t2 .1) j);
+        owner = eqb-true (r .owner) 0 (t13 .0) j;
+        state = eqb-true (r .state) 0 (t13 .1) j;
+        seller = eqb-true (r .seller) 0 (t12 .1) j;
+        buyer = eqb-true (r .buyer) 0 (t11 .1) j;
+        contract = eqb-true (r .contract) 0 (t10 .1) j;
+        days = eqb-true (r .days) 0 (t9 .1) j;
+        due = eqb-true (r .due) 0 (t8 .1) j;
+        weight = record { 0 = eqb-true (r .weight .0) 0 (t7 .1) j };
+        basis = record { 0 = zero-is (r .basis .0) (t2 .1) j };
+        price = record { 0 = eqb-true (r .price .0) 0 (t6 .1) j };
+        pending = fen (eqb-true (r .pending .0) 0 (t5 .1) j);
+        confirmed = fen (eqb-true (r .confirmed .0) 0 (t4 .1) j);
+        paid = fen (eqb-true (r .paid .0) 0 (t3 .1) j);
+        premium = record { 0 = zero-is (r .premium .0) (t1 .1) j };
       }
 
   -- a receipt without an owner is none
@@ -265,6 +271,7 @@ pub record Bounds (r : Record) : Type 0 where
   pub weight : r .weight .0 ≤ mostWeight
   pub basis : isBasis (r .basis .0) ≡ true
   pub price : r .price .0 ≤ mostPrice
+  pub premium : isPremium (r .premium .0) ≡ true
 
 -- the bounds of a record whose fields pass their tests
 pub fields-bounds : (r : Record) → FieldsIn r → Bounds r
@@ -280,6 +287,7 @@ fields-bounds r F =
       weight = F .owned .weight .high;
       basis = filled-either _ (λ h. h) (λ e. ap isBasis e) (F .listing .basis);
       price = filled-either _ (price-at-most _) (λ e. omega arith) (F .bid .price);
+      premium = F .owned .premium;
     }
 
 -- the bounds of a valid record, registered or not
@@ -301,5 +309,6 @@ bounds r h = go (ℕ-discrete (r .owner) 0)
           weight = omega arith;
           basis = refl;
           price = omega arith;
+          premium = refl;
         })
     go (no n) = fields-bounds r (known r h n .fields)

@@ -14,14 +14,14 @@ use lib.ListN.{length, getD, set}
 use Rattle.units.specs.declared.Fen.{Fen}
 use Rattle.units.specs.Payments.{fen, restPayment, deposit}
 use Rattle.units.specs.Laws.Bounds.{full-at-most, full-at-least, first-rest, bound-le-rest, mostFull}
-use Rattle.units.specs.Ranges.{within}
+use Rattle.units.specs.Ranges.{within, mostBasis, mostPremium}
 use Rattle.zone.specs.declared.Account.{Account}
 use Rattle.zone.specs.declared.Invoices.{Invoices}
 use Rattle.zone.specs.declared.Record.{Record}
 use Rattle.zone.specs.Held.{full, rest, held, fenFrom, heldFrom, heldSum, allMoney}
 use Rattle.zone.specs.Record.{recordOf}
 use Rattle.zone.specs.Valid.{emptyAccount, recordValid}
-use Rattle.zone.specs.Laws.Tests.{basis-at-most, InRange, in-range, filled-either}
+use Rattle.zone.specs.Laws.Tests.{up-at-most, InRange, in-range, filled-either}
 use Rattle.zone.specs.Laws.Facts.{InvoicesIn, known, owner-some, unregistered, Bounds, bounds}
 
 -- ── One lot ────────────────────────────────────────────────────────────────────────────────────
@@ -29,14 +29,16 @@ use Rattle.zone.specs.Laws.Facts.{InvoicesIn, known, owner-some, unregis
 -- full payment of a record within its bounds
 pub full-le : (r : Record) → Bounds r → full r .0 ≤ mostFull
 unfolding full
-full-le r B = full-at-most (r .price) (r .basis) (r .weight) (B .price) (basis-at-most (r .basis .0) (B .basis)) (B .weight)
+full-le r B =
+    full-at-most (r .price) (r .basis) (r .premium) (r .weight) (B .price) (up-at-most mostBasis (r .basis .0) (B .basis))
+    (up-at-most mostPremium (r .premium .0) (B .premium)) (B .weight)
 
 -- full payment of a valid record with a bid is not nothing
 pub full-ge : (r : Record) → recordValid r ≡ true → InRange 2 6 (r .state) → 100 ≤ full r .0
 unfolding full
 full-ge r h s =
     let F = known r h (owner-some r h (omega arith)) .fields in
-    full-at-least (r .price) (r .basis) (r .weight) (F .bid .pays (in-range s)) (F .owned .weight .low)
+    full-at-least (r .price) (r .basis) (r .premium) (r .weight) (F .bid .pays (in-range s)) (F .owned .weight .low)
 
 -- the rest is part of full
 pub rest-le : (f : Fen) → restPayment f .0 ≤ f .0

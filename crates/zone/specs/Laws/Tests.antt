@@ -8,7 +8,7 @@ use borrow.Author.Tests.{leb-true, le-leb}
 use lib.Dec.{leb}
 use lib.IntN.{ℤ, pos, negsuc}
 use lib.Signed.{leZ}
-use Rattle.units.specs.Ranges.{within, isZero, mostPrice, isPrice, isBasis, mostBasis}
+use Rattle.units.specs.Ranges.{within, isZero, mostPrice, isPrice, upOrDown}
 use Rattle.zone.specs.Valid.{filled, inStates}
 
 -- both parts of a test that passes
@@ -42,9 +42,9 @@ price-at-most n h =
     let r : InRange 5 mostPrice n = range-in (both _ _ h .0) in
     r .high
 
--- no basis is above the largest
-pub basis-at-most : (z : ℤ) → isBasis z ≡ true → leZ z (pos mostBasis) ≡ true
-basis-at-most z h = both (leZ (negsuc (mostBasis - 1)) z) _ h .1
+-- no basis and no premium is above the largest
+pub up-at-most : (most : ℕ) (z : ℤ) → upOrDown most z ≡ true → leZ z (pos most) ≡ true
+up-at-most most z h = both (leZ (negsuc (most - 1)) z) _ h .1
 
 -- what the test of a signed zero tells, and what makes it pass
 pub zero-is : (z : ℤ) → isZero z ≡ true → z ≡ pos 0
