@@ -17,7 +17,7 @@ listingZero r = eqb (r .contract) 0 && eqb (r .days) 0 && isZero (r .basis .0)
 
 -- the fields of a bid are filled
 abbrev pub bidFits : Record → Bool
-bidFits r = isAccount (r .buyer) && isPrice (r .price .0) && not (eqb (r .buyer) (r .seller)) && payable (r .price) (r .basis)
+bidFits r = isAccount (r .buyer) && isPrice (r .price .0) && not (eqb (r .buyer) (r .seller)) && payable (r .price) (r .basis) (r .premium)
 
 abbrev pub bidZero : Record → Bool
 bidZero r = eqb (r .buyer) 0 && eqb (r .price .0) 0

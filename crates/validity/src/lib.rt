@@ -38,6 +38,7 @@ fn is_blank(r: Record) -> bool
         & (r.confirmed.0 == 0)
         & (r.paid.0 == 0)
         & units::is_zero(r.basis.0)
+        & units::is_zero(r.premium.0)
 }
 
 // Seller, contract, D and basis are a listing's.
@@ -64,10 +65,11 @@ fn bid_fits(r: Record) -> bool
 {
     let price = r.price;
     let basis = r.basis;
+    let premium = r.premium;
     units::is_account(r.buyer)
         & units::is_price(price.0 as u64)
         & !(r.buyer == r.seller)
-        & units::is_payable(price, basis)
+        & units::is_payable(price, basis, premium)
 }
 
 fn bid_is_zero(r: Record) -> bool
@@ -128,7 +130,8 @@ fn fields_ok(r: Record) -> bool
 {
     if !((r.state <= STATE_PENALTY_DUE)
         & units::is_account(r.owner)
-        & units::is_weight(r.weight.0)) {
+        & units::is_weight(r.weight.0)
+        & units::is_premium(r.premium.0)) {
         return false;
     }
     state_ok(r)
@@ -140,8 +143,9 @@ pub fn full_of(r: Record) -> Fen
 {
     let price = r.price;
     let basis = r.basis;
+    let premium = r.premium;
     let weight = r.weight;
-    units::full_payment(price, basis, weight)
+    units::full_payment(price, basis, premium, weight)
 }
 
 // The tests go in an order in which no sum and no product can wrap. A product is compared, because it costs less than a division.

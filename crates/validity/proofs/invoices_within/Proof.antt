@@ -1,4 +1,4 @@
--- Full payment, confirmed and pending are at most 1,500,000,000 fen, so no sum and no product wraps; each early answer is a test that fails.
+-- Full payment, confirmed and pending are at most `mostFull` fen, so no sum and no product wraps; each early answer is a test that fails.
 use Rattle.units.specs.Laws.Bounds.{mostFull, bound-le-rest}
 use mathlib.Core.Bool.{Bool, true, false, _&&_, and-false}
 use mathlib.Core.Path.{_≡_, refl, sym}

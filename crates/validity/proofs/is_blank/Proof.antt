@@ -10,14 +10,25 @@ use Rattle.validity.proofs.is_blank.Tie as tie
 is-zero-requires : tie.Need-is-zero-requires
 is-zero-requires c κs = search needs
 
--- the basis as the machine holds it
-kept : (c : tie.Start) → toZ w32 (ofZ w32 (c .args .r .basis .0)) ≡ c .args .r .basis .0
-kept c = toZ-ofZ (search needs)
+is-zero-requires-2 : tie.Need-is-zero-requires-2
+is-zero-requires-2 c κs = search needs
+
+-- basis and premium are as the machine holds them
+basis-kept : (c : tie.Start) → toZ w32 (ofZ w32 (c .args .r .basis .0)) ≡ c .args .r .basis .0
+basis-kept c = toZ-ofZ (search needs)
+
+premium-kept : (c : tie.Start) → toZ w32 (ofZ w32 (c .args .r .premium .0)) ≡ c .args .r .premium .0
+premium-kept c = toZ-ofZ (search needs)
 
 returns : tie.Need-returns
 unfolding blank
 returns c =
-    rw (c .is-zero .ensures, kept (c .before .before .before .before .before .before .before .before .before .before .before .before .before .before))
+    rw (
+      c .before .before .is-zero .ensures,
+      c .is-zero2 .ensures,
+      basis-kept (c .before .before .before .before .before .before .before .before .before .before .before .before .before .before .before .before),
+      premium-kept (c .before .before .before .before .before .before .before .before .before .before .before .before .before .before .before .before),
+    )
 
 pub is-blank-spec : {M : Type 1} → statement M
-is-blank-spec = tie.close (tie.spec is-zero-requires returns)
+is-blank-spec = tie.close (tie.spec is-zero-requires is-zero-requires-2 returns)
