@@ -1,4 +1,4 @@
--- Where each part and each field of an image stands (01 Image 1 to 4). Every length, start and place is named here once, and each start
+-- Where each part and each field of an image stands (01 Image 1 to 4, 02 2/12). Every length, start and place is named here once, and each start
 -- follows from what stands before it; src/lib.rt has a const for each name that the code uses.
 -- Assumes nothing.
 use mathlib.Core.Bool.{Bool, cond, _&&_}
@@ -108,8 +108,11 @@ confirmedPlace = pendingPlace + 4
 abbrev pub paidPlace : ℕ
 paidPlace = confirmedPlace + 4
 
+abbrev pub premiumPlace : ℕ
+premiumPlace = paidPlace + 4
+
 abbrev pub receiptLength : ℕ
-receiptLength = paidPlace + 4
+receiptLength = premiumPlace + 4
 
 -- ── The tables, one behind the other ───────────────────────────────────────────────────────────
 
@@ -191,7 +194,7 @@ asksIn s = table contractCount (λ i. askIn (askRun s i))
 
 -- ── A receipt's record ─────────────────────────────────────────────────────────────────────────
 
--- a record of its bytes, and the bytes of a record (01 Image 4)
+-- a record of its bytes, and the bytes of a record (01 Image 4; the premium comes last, 02 2/12)
 unfoldable pub recordIn : List ℕ → Record
 recordIn b =
     record {
@@ -208,13 +211,14 @@ recordIn b =
       pending = fen (leAt 4 b pendingPlace);
       confirmed = fen (leAt 4 b confirmedPlace);
       paid = fen (leAt 4 b paidPlace);
+      premium = record { 0 = signed32 (leAt 4 b premiumPlace) };
     }
 
 unfoldable pub recordBytes : Record → List ℕ
 recordBytes r =
     r .owner ∷ r .state ∷ r .seller ∷ r .buyer ∷ r .contract ∷ r .days ∷ leBytes 2 (r .due) ++ leBytes 4 (r .weight .0)
     ++ leBytes 4 (bits32 (r .basis .0)) ++ leBytes 4 (r .price .0) ++ leBytes 4 (r .pending .0) ++ leBytes 4 (r .confirmed .0)
-    ++ leBytes 4 (r .paid .0)
+    ++ leBytes 4 (r .paid .0) ++ leBytes 4 (bits32 (r .premium .0))
 
 -- the bytes of receipt k, counted from 0
 abbrev pub receiptRun : List ℕ → ℕ → List ℕ

@@ -10,6 +10,7 @@ use units::Basis;
 use units::CONTRACTS;
 use units::Fen;
 use units::Kilograms;
+use units::Premium;
 use units::RECEIPTS;
 use units::YuanPerTonne;
 use zone::Account;
@@ -71,7 +72,9 @@ pub const CONFIRMED_PLACE: usize = PENDING_PLACE + 4;
 
 pub const PAID_PLACE: usize = CONFIRMED_PLACE + 4;
 
-pub const RECEIPT_LENGTH: usize = PAID_PLACE + 4;
+pub const PREMIUM_PLACE: usize = PAID_PLACE + 4;
+
+pub const RECEIPT_LENGTH: usize = PREMIUM_PLACE + 4;
 
 pub const ACCOUNT_START: usize = HEADER_LENGTH;
 
@@ -159,6 +162,7 @@ fn record_in(s: &[u8]) -> Record
     let pending = wire::get_u32(s, PENDING_PLACE) as u64;
     let confirmed = wire::get_u32(s, CONFIRMED_PLACE) as u64;
     let paid = wire::get_u32(s, PAID_PLACE) as u64;
+    let premium = wire::get_i32(s, PREMIUM_PLACE);
     Record {
         owner: s[OWNER_PLACE],
         state: s[STATE_PLACE],
@@ -173,6 +177,7 @@ fn record_in(s: &[u8]) -> Record
         pending: Fen(pending),
         confirmed: Fen(confirmed),
         paid: Fen(paid),
+        premium: Premium(premium),
     }
 }
 

@@ -37,28 +37,31 @@ get-u32-requires-5 c κs = search needs
 cast-paid : tie.Need-cast-paid
 cast-paid c = search needs
 
-shared-slice-read-t11 : tie.Need-shared-slice-read-t11
-shared-slice-read-t11 c = search needs
+get-i32-requires-2 : tie.Need-get-i32-requires-2
+get-i32-requires-2 c κs = search needs
 
-shared-slice-read-t13 : tie.Need-shared-slice-read-t13
-shared-slice-read-t13 c = search needs
+shared-slice-read-t12 : tie.Need-shared-slice-read-t12
+shared-slice-read-t12 c = search needs
 
-shared-slice-read-t15 : tie.Need-shared-slice-read-t15
-shared-slice-read-t15 c = search needs
+shared-slice-read-t14 : tie.Need-shared-slice-read-t14
+shared-slice-read-t14 c = search needs
 
-shared-slice-read-t17 : tie.Need-shared-slice-read-t17
-shared-slice-read-t17 c = search needs
+shared-slice-read-t16 : tie.Need-shared-slice-read-t16
+shared-slice-read-t16 c = search needs
 
-shared-slice-read-t19 : tie.Need-shared-slice-read-t19
-shared-slice-read-t19 c = search needs
+shared-slice-read-t18 : tie.Need-shared-slice-read-t18
+shared-slice-read-t18 c = search needs
 
-shared-slice-read-t21 : tie.Need-shared-slice-read-t21
-shared-slice-read-t21 c = search needs
+shared-slice-read-t20 : tie.Need-shared-slice-read-t20
+shared-slice-read-t20 c = search needs
+
+shared-slice-read-t22 : tie.Need-shared-slice-read-t22
+shared-slice-read-t22 c = search needs
 
 returns : tie.Need-returns
 unfolding recordIn
 returns c =
-    record-eq (c .before .before .before .before .before .before .before .before .before .before .before .before .get-u16 .ensures) (c .before .before .before .before .before .before .before .before .before .before .before .get-u32 .ensures) (toZ-ofZ (search needs) ∙ c .before .before .before .before .before .before .before .before .before .before .get-i32 .ensures) (c .before .before .before .before .before .before .before .before .before .get-u322 .ensures) (c .before .before .before .before .before .before .before .before .get-u323 .ensures) (c .before .before .before .before .before .before .before .get-u324 .ensures) (c .before .before .before .before .before .before .get-u325 .ensures)
+    record-eq (c .before .before .before .before .before .before .before .before .before .before .before .before .before .get-u16 .ensures) (c .before .before .before .before .before .before .before .before .before .before .before .before .get-u32 .ensures) (toZ-ofZ (search needs) ∙ c .before .before .before .before .before .before .before .before .before .before .before .get-i32 .ensures) (c .before .before .before .before .before .before .before .before .before .before .get-u322 .ensures) (c .before .before .before .before .before .before .before .before .before .get-u323 .ensures) (c .before .before .before .before .before .before .before .before .get-u324 .ensures) (c .before .before .before .before .before .before .before .get-u325 .ensures) (toZ-ofZ (search needs) ∙ c .before .before .before .before .before .before .get-i322 .ensures)
 
 pub record-in-spec : {M : Type 1} → statement M
 record-in-spec =
@@ -74,10 +77,11 @@ record-in-spec =
     cast-confirmed
     get-u32-requires-5
     cast-paid
-    shared-slice-read-t11
-    shared-slice-read-t13
-    shared-slice-read-t15
-    shared-slice-read-t17
-    shared-slice-read-t19
-    shared-slice-read-t21
+    get-i32-requires-2
+    shared-slice-read-t12
+    shared-slice-read-t14
+    shared-slice-read-t16
+    shared-slice-read-t18
+    shared-slice-read-t20
+    shared-slice-read-t22
     returns)

@@ -7,8 +7,8 @@ use Rattle.units.specs.Payments.{fen}
 use Rattle.zone.specs.declared.Record.{Record}
 
 -- a record with these six bytes and these numbers
-abbrev pub fields : ℕ → ℕ → ℕ → ℕ → ℕ → ℕ → ℕ → ℕ → ℤ → ℕ → ℕ → ℕ → ℕ → Record
-fields owner state seller buyer contract days due weight basis price pending confirmed paid =
+abbrev pub fields : ℕ → ℕ → ℕ → ℕ → ℕ → ℕ → ℕ → ℕ → ℤ → ℕ → ℕ → ℕ → ℕ → ℤ → Record
+fields owner state seller buyer contract days due weight basis price pending confirmed paid premium =
     record {
       owner = owner;
       state = state;
@@ -23,9 +23,10 @@ fields owner state seller buyer contract days due weight basis price pending con
       pending = fen pending;
       confirmed = fen confirmed;
       paid = fen paid;
+      premium = record { 0 = premium };
     }
 
-pub record-eq : {o s a b c d due due′ w w′ p p′ i i′ j j′ k k′ : ℕ} {z z′ : ℤ} →
-    due ≡ due′ → w ≡ w′ → z ≡ z′ → p ≡ p′ → i ≡ i′ → j ≡ j′ → k ≡ k′ →
-    fields o s a b c d due w z p i j k ≡ fields o s a b c d due′ w′ z′ p′ i′ j′ k′
-record-eq {o} {s} {a} {b} {c} {d} e1 e2 e3 e4 e5 e6 e7 = λ t. fields o s a b c d (e1 t) (e2 t) (e3 t) (e4 t) (e5 t) (e6 t) (e7 t)
+pub record-eq : {o s a b c d due due′ w w′ p p′ i i′ j j′ k k′ : ℕ} {y y′ z z′ : ℤ} →
+    due ≡ due′ → w ≡ w′ → y ≡ y′ → p ≡ p′ → i ≡ i′ → j ≡ j′ → k ≡ k′ → z ≡ z′ →
+    fields o s a b c d due w y p i j k z ≡ fields o s a b c d due′ w′ y′ p′ i′ j′ k′ z′
+record-eq {o} {s} {a} {b} {c} {d} e1 e2 e3 e4 e5 e6 e7 e8 = λ t. fields o s a b c d (e1 t) (e2 t) (e3 t) (e4 t) (e5 t) (e6 t) (e7 t) (e8 t)

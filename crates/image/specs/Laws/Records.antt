@@ -16,7 +16,7 @@ use mir.Syntax.{w32}
 use mir.Val.{SFits}
 use Rattle.units.specs.declared.YuanPerTonne.{YuanPerTonne}
 use Rattle.units.specs.Payments.{fen}
-use Rattle.units.specs.Ranges.{accountCount, receiptCount, contractCount, mostPrice, mostBasis, isBasis, isPrice}
+use Rattle.units.specs.Ranges.{accountCount, receiptCount, contractCount, mostPrice, mostBasis, mostPremium, upOrDown, isPrice}
 use Rattle.wire.specs.LittleEndian.{leAt, leBytes, signed32, bits32, Bytes}
 use Rattle.wire.specs.Laws.Bytes.{leAt-leBytes, leBytes-leAt, leAt-lt, bytes-leBytes, bytes-zeros}
 use Rattle.wire.specs.Laws.TwosComplement.{signed-bits, bits-signed, bits-lt}
@@ -27,7 +27,7 @@ use Rattle.zone.specs.Laws.Facts.{bounds}
 use Rattle.zone.specs.Laws.Held.{invoice-bounds}
 use Rattle.zone.specs.Laws.Tests.{both, price-at-most}
 use Rattle.image.specs.Table.{table}
-use Rattle.image.specs.Layout.{headerLength, accountLength, askLength, receiptLength, accountStart, contractStart, receiptStart, accountCountPlace, receiptCountPlace, contractCountPlace, dayPlace, accountStartPlace, contractStartPlace, receiptStartPlace, phasePlace, totalPlace, ownerPlace, statePlace, sellerPlace, buyerPlace, contractPlace, daysPlace, duePlace, weightPlace, basisPlace, pricePlace, pendingPlace, confirmedPlace, paidPlace, headerOk, phaseByte, headerBytes, dayIn, afternoonIn, totalIn, accountIn, accountBytes, askIn, askBytes, recordIn, recordBytes, freePlace, frozenPlace}
+use Rattle.image.specs.Layout.{headerLength, accountLength, askLength, receiptLength, accountStart, contractStart, receiptStart, accountCountPlace, receiptCountPlace, contractCountPlace, dayPlace, accountStartPlace, contractStartPlace, receiptStartPlace, phasePlace, totalPlace, ownerPlace, statePlace, sellerPlace, buyerPlace, contractPlace, daysPlace, duePlace, weightPlace, basisPlace, pricePlace, pendingPlace, confirmedPlace, paidPlace, premiumPlace, headerOk, phaseByte, headerBytes, dayIn, afternoonIn, totalIn, accountIn, accountBytes, askIn, askBytes, recordIn, recordBytes, freePlace, frozenPlace}
 use Rattle.image.specs.Laws.Bytes.{bytes-cons, bytes-append}
 use Rattle.image.specs.Laws.Fields.{record-eq}
 
@@ -66,24 +66,29 @@ pub ask-read : (a : YuanPerTonne) → a .0 < 2 ^ 32 → askIn (askBytes a) ≡ a
 unfolding askIn askBytes leAt leBytes
 ask-read a h = λ j. record { 0 = leAt-leBytes 4 (a .0) [] [] h j }
 
-basis-fits : (b : ℤ) → isBasis b ≡ true → SFits w32 b
-basis-fits (pos n) h = record { sfits = omega (arith, leb-true n mostBasis (both (leZ (negsuc (mostBasis - 1)) (pos n)) _ h .1)) }
-basis-fits (negsuc n) h = record { sfits = omega (arith, leb-true n (mostBasis - 1) (both (leZ (negsuc (mostBasis - 1)) (negsuc n)) _ h .0)) }
+-- a basis and a premium fit four bytes
+signed-fits : (most : ℕ) (z : ℤ) → most < 2 ^ 31 → upOrDown most z ≡ true → SFits w32 z
+signed-fits most (pos n) m h = record { sfits = omega (arith, leb-true n most (both (leZ (negsuc (most - 1)) (pos n)) _ h .1)) }
+signed-fits most (negsuc n) m h = record { sfits = omega (arith, leb-true n (most - 1) (both (leZ (negsuc (most - 1)) (negsuc n)) _ h .0)) }
+
+signed-read : (z : ℤ) → SFits w32 z → signed32 (leAt 4 (leBytes 4 (bits32 z)) 0) ≡ z
+unfolding leAt leBytes
+signed-read z s = ap signed32 (leAt-leBytes 4 (bits32 z) [] [] (bits-lt z s)) ∙ signed-bits z s
 
 pub record-read : (r : Record) → recordValid r ≡ true → recordIn (recordBytes r) ≡ r
 unfolding recordIn recordBytes leAt leBytes
 record-read r v =
     let B = bounds r v in
     let I = invoice-bounds r v in
-    let s = basis-fits (r .basis .0) (B .basis) in
     record-eq
     (leAt-leBytes 2 (r .due) [] [] (omega (arith, B .due)))
     (leAt-leBytes 4 (r .weight .0) [] [] (omega (arith, B .weight)))
-    (ap signed32 (leAt-leBytes 4 (bits32 (r .basis .0)) [] [] (bits-lt (r .basis .0) s)) ∙ signed-bits (r .basis .0) s)
+    (signed-read (r .basis .0) (signed-fits mostBasis (r .basis .0) (lit< tt) (B .basis)))
     (leAt-leBytes 4 (r .price .0) [] [] (omega (arith, B .price)))
     (leAt-leBytes 4 (r .pending .0) [] [] (omega (arith, I .pending)))
     (leAt-leBytes 4 (r .confirmed .0) [] [] (omega (arith, I .confirmed)))
     (leAt-leBytes 4 (r .paid .0) [] [] (omega (arith, I .paid)))
+    (signed-read (r .premium .0) (signed-fits mostPremium (r .premium .0) (lit< tt) (B .premium)))
 
 -- a number behind bytes
 bytes-number : (s : List ℕ) (w v : ℕ) → Bytes s → Bytes (s ++ leBytes w v)
@@ -105,17 +110,19 @@ record-bytes r v =
     let price = basis ++ leBytes 4 (r .price .0) in
     let pending = price ++ leBytes 4 (r .pending .0) in
     let confirmed = pending ++ leBytes 4 (r .confirmed .0) in
+    let paid = confirmed ++ leBytes 4 (r .paid .0) in
     let b5 : Bytes s5 = bytes-cons (r .days) (leBytes 2 (r .due)) (omega (arith, B .days)) (bytes-leBytes 2 (r .due)) in
     let b4 : Bytes s4 = bytes-cons (r .contract) s5 (omega (arith, B .contract)) b5 in
     let b3 : Bytes s3 = bytes-cons (r .buyer) s4 (omega (arith, B .buyer)) b4 in
     let b2 : Bytes s2 = bytes-cons (r .seller) s3 (omega (arith, B .seller)) b3 in
     let b1 : Bytes s1 = bytes-cons (r .state) s2 (omega (arith, B .state)) b2 in
     let b0 : Bytes s0 = bytes-cons (r .owner) s1 (omega (arith, B .owner)) b1 in
-    bytes-number confirmed 4 (r .paid .0)
+    bytes-number paid 4 (bits32 (r .premium .0))
+    (bytes-number confirmed 4 (r .paid .0)
     (bytes-number pending 4 (r .confirmed .0)
     (bytes-number price 4 (r .pending .0)
     (bytes-number basis 4 (r .price .0)
-    (bytes-number weight 4 (bits32 (r .basis .0)) (bytes-number s0 4 (r .weight .0) b0)))))
+    (bytes-number weight 4 (bits32 (r .basis .0)) (bytes-number s0 4 (r .weight .0) b0))))))
 
 -- the header's bytes are bytes
 phase-byte : (a : Bool) → cond a 1 0 < 256
@@ -183,9 +190,9 @@ unfolding recordBytes recordIn table
 record-written b B n =
     let single : getD b ownerPlace 0 ∷ getD b statePlace 0 ∷ getD b sellerPlace 0 ∷ getD b buyerPlace 0 ∷ getD b contractPlace 0 ∷ getD b daysPlace 0 ∷ [] ≡ take duePlace b = sym (take-table duePlace b (omega arith)) in
     let h : length b ≤ receiptLength = omega arith in
-    rw (bits-signed (leAt 4 b basisPlace) (leAt-lt 4 b basisPlace B), leBytes-leAt 2 b duePlace B (omega arith), leBytes-leAt 4 b weightPlace B (omega arith), leBytes-leAt 4 b basisPlace B (omega arith), leBytes-leAt 4 b pricePlace B (omega arith), leBytes-leAt 4 b pendingPlace B (omega arith), leBytes-leAt 4 b confirmedPlace B (omega arith), leBytes-leAt 4 b paidPlace B (omega arith))
-    (ap (λ (l : List ℕ). l ++ take 2 (drop duePlace b) ++ take 4 (drop weightPlace b) ++ take 4 (drop basisPlace b) ++ take 4 (drop pricePlace b) ++ take 4 (drop pendingPlace b) ++ take 4 (drop confirmedPlace b) ++ take 4 (drop paidPlace b)) single
-    ∙ rw (run b duePlace 2, run b weightPlace 4, run b basisPlace 4, run b pricePlace 4, run b pendingPlace 4, run b confirmedPlace 4, run b paidPlace 4) (take-all receiptLength b h))
+    rw (bits-signed (leAt 4 b basisPlace) (leAt-lt 4 b basisPlace B), bits-signed (leAt 4 b premiumPlace) (leAt-lt 4 b premiumPlace B), leBytes-leAt 2 b duePlace B (omega arith), leBytes-leAt 4 b weightPlace B (omega arith), leBytes-leAt 4 b basisPlace B (omega arith), leBytes-leAt 4 b pricePlace B (omega arith), leBytes-leAt 4 b pendingPlace B (omega arith), leBytes-leAt 4 b confirmedPlace B (omega arith), leBytes-leAt 4 b paidPlace B (omega arith), leBytes-leAt 4 b premiumPlace B (omega arith))
+    (ap (λ (l : List ℕ). l ++ take 2 (drop duePlace b) ++ take 4 (drop weightPlace b) ++ take 4 (drop basisPlace b) ++ take 4 (drop pricePlace b) ++ take 4 (drop pendingPlace b) ++ take 4 (drop confirmedPlace b) ++ take 4 (drop paidPlace b) ++ take 4 (drop premiumPlace b)) single
+    ∙ rw (run b duePlace 2, run b weightPlace 4, run b basisPlace 4, run b pricePlace 4, run b pendingPlace 4, run b confirmedPlace 4, run b paidPlace 4, run b premiumPlace 4) (take-all receiptLength b h))
 
 phase-is : (p : ℕ) → p ≤ 1 → cond (eqb p 1) 1 0 ≡ p
 phase-is p h = go (ℕ-discrete p 1)
