@@ -7,7 +7,7 @@ ghost use Rattle.units.specs.Ranges.{accountCount, receiptCount, contractCount}
 ghost use Rattle.zone.specs.Record.{recordOf, receiptOf};
 ghost use Rattle.zone.specs.Valid.{noAsks};
 ghost use Rattle.zone.specs.Parts.{withClock, withAsks, withAccounts, withReceipts, withTotal};
-ghost use Rattle.image.specs.Layout.{accountLength, receiptLength, pricePlace, recordBytes, accountBytes};
+ghost use Rattle.image.specs.Layout.{accountLength, receiptLength, pricePlace, premiumPlace, recordBytes, accountBytes};
 ghost use Rattle.image.specs.Image.{decode, encode, Encoded};
 use image::ACCOUNT_LENGTH;
 use image::ACCOUNT_START;
@@ -21,6 +21,7 @@ use image::FROZEN_PLACE;
 use image::PAID_PLACE;
 use image::PENDING_PLACE;
 use image::PHASE_PLACE;
+use image::PREMIUM_PLACE;
 use image::PRICE_PLACE;
 use image::RECEIPT_LENGTH;
 use image::RECEIPT_START;
@@ -62,15 +63,24 @@ fn low_half(n: Fen) -> u32
     (n.0 % 4294967296) as u32
 }
 
-pub fn record_bytes(image: &mut [u8], at: usize, r: Record)
+// All fields but the premium.
+fn record_but_premium(image: &mut [u8], at: usize, r: Record)
     requires { ⌜ at + receiptLength ≤ length (now image) ⌝ }
-    ensures { λ _. ⌜ now (image .exit) ≡ sets (now (image .entry)) at (recordBytes r) ⌝ }
+    ensures { λ _. ⌜ now (image .exit) ≡ sets (now (image .entry)) at (take premiumPlace (recordBytes r)) ⌝ }
 {
     record_first_fields(image, at, r);
     wire::put_u32(image, at + PRICE_PLACE, r.price.0);
     wire::put_u32(image, at + PENDING_PLACE, low_half(r.pending));
     wire::put_u32(image, at + CONFIRMED_PLACE, low_half(r.confirmed));
     wire::put_u32(image, at + PAID_PLACE, low_half(r.paid));
+}
+
+pub fn record_bytes(image: &mut [u8], at: usize, r: Record)
+    requires { ⌜ at + receiptLength ≤ length (now image) ⌝ }
+    ensures { λ _. ⌜ now (image .exit) ≡ sets (now (image .entry)) at (recordBytes r) ⌝ }
+{
+    record_but_premium(image, at, r);
+    wire::put_i32(image, at + PREMIUM_PLACE, r.premium.0);
 }
 
 // ── Parts of a zone ─────────────────────────────────────────────────────────────────────────────

@@ -1,69 +1,35 @@
--- Five runs, one behind the other.
+-- Two runs, one behind the other.
+use mathlib.Core.Path.{_≡_}
+use mir.Syntax.{w32}
+use mir.Val.{toZ, ofZ}
+use mir.Facts.{toZ-ofZ}
 use Rattle.put.proofs.Runs.{whole}
 use denote.Ref.{now}
 use borrow.Author.Needs.{needs}
 use Rattle.put.proofs.record_bytes.Statement.{statement}
 use Rattle.put.proofs.record_bytes.Tie as tie
 
-record-first-fields-requires : tie.Need-record-first-fields-requires
-record-first-fields-requires c κs = search needs
+-- the premium as the machine holds it
+kept : (c : tie.Start) → toZ w32 (ofZ w32 (c .args .r .premium .0)) ≡ c .args .r .premium .0
+kept c = toZ-ofZ (search needs)
 
-add-put-u32 : tie.Need-add-put-u32
-add-put-u32 c = search needs
+record-but-premium-requires : tie.Need-record-but-premium-requires
+record-but-premium-requires c κs = search needs
 
-put-u32-requires : tie.Need-put-u32-requires
-put-u32-requires c κs = search needs
+add-put-i32 : tie.Need-add-put-i32
+add-put-i32 c = search needs
 
-add-put-u32-2 : tie.Need-add-put-u32-2
-add-put-u32-2 c = search needs
-
-low-half-requires : tie.Need-low-half-requires
-low-half-requires c κs = search needs
-
-put-u32-requires-2 : tie.Need-put-u32-requires-2
-put-u32-requires-2 c κs = search needs
-
-add-put-u32-3 : tie.Need-add-put-u32-3
-add-put-u32-3 c = search needs
-
-low-half-requires-2 : tie.Need-low-half-requires-2
-low-half-requires-2 c κs = search needs
-
-put-u32-requires-3 : tie.Need-put-u32-requires-3
-put-u32-requires-3 c κs = search needs
-
-add-put-u32-4 : tie.Need-add-put-u32-4
-add-put-u32-4 c = search needs
-
-low-half-requires-3 : tie.Need-low-half-requires-3
-low-half-requires-3 c κs = search needs
-
-put-u32-requires-4 : tie.Need-put-u32-requires-4
-put-u32-requires-4 c κs = search needs
+put-i32-requires : tie.Need-put-i32-requires
+put-i32-requires c κs = search needs
 
 same-length : tie.Need-same-length
 same-length c = search needs
 
 returns : tie.Need-returns
 returns c =
-    whole (c .before .before .before .before .before .before .before .before .before .before .before .before .before .before .before .before .before .before .before .before .before .before .before .before .args .at) (c .before .before .before .before .before .before .before .before .before .before .before .before .before .before .before .before .before .before .before .before .before .before .before .before .args .r) (now (c .before .before .before .before .before .before .before .before .before .before .before .before .before .before .before .before .before .before .before .before .before .before .before .before .args .image)) (c .before .before .before .before .before .before .before .before .before .before .before .before .before .low-half .result) (c .before .before .before .before .before .before .before .before .low-half2 .result) (c .before .before .before .low-half3 .result) (c .before .before .before .before .before .before .before .before .before .before .before .before .before .low-half .ensures) (c .before .before .before .before .before .before .before .before .low-half2 .ensures) (c .before .before .before .low-half3 .ensures)
-    (c .before .before .before .before .before .before .before .before .before .before .before .before .before .before .before .before .before .before .before .before .before .record-first-fields .ensures) (c .before .before .before .before .before .before .before .before .before .before .before .before .before .before .before .before .before .put-u32 .ensures) (c .before .before .before .before .before .before .before .before .before .before .before .before .put-u322 .ensures) (c .before .before .before .before .before .before .before .put-u323 .ensures) (c .before .before .put-u324 .ensures)
+    whole (c .before .before .before .before .before .before .before .before .before .before .args .at) (c .before .before .before .before .before .before .before .before .before .before .args .r) (now (c .before .before .before .before .before .before .before .before .before .before .args .image)) _ (kept (c .before .before .before .before .before .before .before .before .before .before)) (c .before .before .before .before .before .before .before .record-but-premium .ensures) (c .before .before .put-i32 .ensures)
 
 pub record-bytes-spec : {M : Type 1} → statement M
 record-bytes-spec =
     tie.close
-    (tie.spec
-    record-first-fields-requires
-    add-put-u32
-    put-u32-requires
-    add-put-u32-2
-    low-half-requires
-    put-u32-requires-2
-    add-put-u32-3
-    low-half-requires-2
-    put-u32-requires-3
-    add-put-u32-4
-    low-half-requires-3
-    put-u32-requires-4
-    same-length
-    returns)
+    (tie.spec record-but-premium-requires add-put-i32 put-i32-requires same-length returns)

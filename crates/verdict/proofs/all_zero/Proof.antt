@@ -17,12 +17,15 @@ get-u64-requires-3 c κs = search needs
 get-u64-requires-4 : tie.Need-get-u64-requires-4
 get-u64-requires-4 c κs = search needs
 
+get-u32-requires : tie.Need-get-u32-requires
+get-u32-requires c κs = search needs
+
 returns : tie.Need-returns
 returns c =
-    rw (c .before .before .before .get-u64 .ensures, c .before .before .get-u642 .ensures, c .before .get-u643 .ensures, c .get-u644 .ensures)
-    (zeros-valid (now (c .before .before .before .before .before .args .s)) (λ k. c .before .before .before .before .shared-slice-known .given k .fits) (c .before .before .before .before .before .pre .1))
+    rw (c .before .before .before .before .get-u64 .ensures, c .before .before .before .get-u642 .ensures, c .before .before .get-u643 .ensures, c .before .get-u644 .ensures, c .get-u32 .ensures)
+    (zeros-valid (now (c .before .before .before .before .before .before .args .s)) (λ k. c .before .before .before .before .before .shared-slice-known .given k .fits) (c .before .before .before .before .before .before .pre .1))
 
 pub all-zero-spec : {M : Type 1} → statement M
 all-zero-spec =
     tie.close
-    (tie.spec get-u64-requires get-u64-requires-2 get-u64-requires-3 get-u64-requires-4 returns)
+    (tie.spec get-u64-requires get-u64-requires-2 get-u64-requires-3 get-u64-requires-4 get-u32-requires returns)

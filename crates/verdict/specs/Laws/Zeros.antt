@@ -1,4 +1,4 @@
--- A record without an owner is valid where its bytes, read by eight, are zeros.
+-- A record without an owner is valid where its bytes, read by eight and the last four, are zeros.
 -- Assumes nothing.
 use mathlib.Core.Bool.{Bool, true, false, _&&_}
 use mathlib.Core.List.{List}
@@ -17,11 +17,11 @@ use Rattle.zone.specs.Record.{recordOf}
 use Rattle.zone.specs.Valid.{recordValid, noReceipt}
 use Rattle.zone.specs.Laws.Facts.{unregistered, none-valid}
 use Rattle.zone.specs.Laws.Tests.{both, join}
-use Rattle.image.specs.Layout.{recordIn}
+use Rattle.image.specs.Layout.{premiumPlace, recordIn}
 
--- the four tests of eight bytes each
+-- the four tests of eight bytes each, and the test of the premium
 abbrev pub zeros : List ℕ → Bool
-zeros s = eqb (leAt 8 s 0) 0 && eqb (leAt 8 s 8) 0 && eqb (leAt 8 s 16) 0 && eqb (leAt 8 s 24) 0
+zeros s = eqb (leAt 8 s 0) 0 && eqb (leAt 8 s 8) 0 && eqb (leAt 8 s 16) 0 && eqb (leAt 8 s 24) 0 && eqb (leAt 4 s premiumPlace) 0
 
 -- tests that pass together are the same
 same-test : (a b : Bool) → (a ≡ true → b ≡ true) → (b ≡ true → a ≡ true) → a ≡ b
@@ -50,10 +50,12 @@ zeros-blank s h =
     let t1 = both _ _ h in
     let t2 = both _ _ (t1 .0) in
     let t3 = both _ _ (t2 .0) in
-    let z0 : leAt 8 s 0 ≡ 0 = eqb-true _ _ (t3 .0) in
-    let z1 : leAt 8 s 8 ≡ 0 = eqb-true _ _ (t3 .1) in
-    let z2 : leAt 8 s 16 ≡ 0 = eqb-true _ _ (t2 .1) in
-    let z3 : leAt 8 s 24 ≡ 0 = eqb-true _ _ (t1 .1) in
+    let t4 = both _ _ (t3 .0) in
+    let z0 : leAt 8 s 0 ≡ 0 = eqb-true _ _ (t4 .0) in
+    let z1 : leAt 8 s 8 ≡ 0 = eqb-true _ _ (t4 .1) in
+    let z2 : leAt 8 s 16 ≡ 0 = eqb-true _ _ (t3 .1) in
+    let z3 : leAt 8 s 24 ≡ 0 = eqb-true _ _ (t2 .1) in
+    let premium : leAt 4 s premiumPlace ≡ 0 = eqb-true _ _ (t1 .1) in
     let owner : getD s 0 0 ≡ 0 = omega (arith, first-eight s) in
     let state : getD s 1 0 ≡ 0 = omega (arith, first-eight s) in
     let seller : getD s 2 0 ≡ 0 = omega (arith, first-eight s) in
@@ -67,7 +69,7 @@ zeros-blank s h =
     let pending : leAt 4 s 20 ≡ 0 = omega (arith, leAt-add 4 4 s 16) in
     let confirmed : leAt 4 s 24 ≡ 0 = omega (arith, leAt-add 4 4 s 24) in
     let paid : leAt 4 s 28 ≡ 0 = omega (arith, leAt-add 4 4 s 24) in
-    rw (owner, state, seller, buyer, contract, days, due, weight, basis, price, pending, confirmed, paid, zero-signed)
+    rw (owner, state, seller, buyer, contract, days, due, weight, basis, price, pending, confirmed, paid, premium, zero-signed)
 
 -- and the record of no receipt is zeros
 blank-zeros : (s : List ℕ) → Bytes s → recordIn s ≡ recordOf noReceipt → zeros s ≡ true
@@ -86,11 +88,13 @@ blank-zeros s b e =
     let pending : leAt 4 s 20 ≡ 0 = ap (λ (r : Record). r .pending .0) e in
     let confirmed : leAt 4 s 24 ≡ 0 = ap (λ (r : Record). r .confirmed .0) e in
     let paid : leAt 4 s 28 ≡ 0 = ap (λ (r : Record). r .paid .0) e in
-    join (join (join
+    let premium : leAt 4 s premiumPlace ≡ 0 = signed-zero _ (leAt-lt 4 s premiumPlace b) (ap (λ (r : Record). r .premium .0) e) in
+    join (join (join (join
     (eq-eqb (leAt 8 s 0) 0 (omega (arith, first-eight s)))
     (eq-eqb (leAt 8 s 8) 0 (omega (arith, leAt-add 4 4 s 8))))
     (eq-eqb (leAt 8 s 16) 0 (omega (arith, leAt-add 4 4 s 16))))
-    (eq-eqb (leAt 8 s 24) 0 (omega (arith, leAt-add 4 4 s 24)))
+    (eq-eqb (leAt 8 s 24) 0 (omega (arith, leAt-add 4 4 s 24))))
+    (eq-eqb (leAt 4 s premiumPlace) 0 premium)
 
 pub zeros-valid : (s : List ℕ) → Bytes s → recordIn s .owner ≡ 0 → zeros s ≡ recordValid (recordIn s)
 zeros-valid s b o =
