@@ -13,7 +13,6 @@ use rules::OUTCOME_SETTLED;
 use rules::View;
 use units::PER_RECEIPT;
 use zone::Lot;
-use zone::Receipt;
 use zone::Record;
 
 // ── The morning close ───────────────────────────────────────────────────────────────────────────
@@ -31,16 +30,9 @@ fn close_lodged(v: View, n: u8, f: Record) -> AtLot
     ensures { λ x. ⌜ x ≡ closeLodged v n f ⌝ }
 {
     if has_money(v, f) {
-        let weight = f.weight;
         let e = rules::by_buyer(n, OUTCOME_SETTLED, f, validity::full_of(f).0 as u32);
-        AtLot::Event(
-            e,
-            Receipt {
-                owner: f.buyer,
-                weight: weight,
-                lot: Lot::Settled(zone::trade_of(f)),
-            },
-        )
+        let lot = Lot::Settled(zone::trade_of(f));
+        AtLot::Event(e, rules::owned_by(f.buyer, f, lot))
     } else {
         AtLot::Event(
             rules::by_buyer(n, OUTCOME_BUYER_DEFAULT, f, PER_RECEIPT as u32),

@@ -1,6 +1,6 @@
 // The fields of a call that its kind uses: the others are zero, these are in their ranges.
 ghost use mathlib.Core.Path.{_≡_};
-ghost use Rattle.rules.specs.Numbers.{account, receipt, contract, amount, brackets, isUsed, unusedZero, inRange, values};
+ghost use Rattle.rules.specs.Numbers.{account, receipt, contract, amount, basis, brackets, isUsed, unusedZero, inRange, values};
 use rules::Call;
 use rules::KIND_CONFIRM;
 use rules::KIND_FIRST_PAYMENT;
@@ -46,7 +46,14 @@ fn uses_amount(kind: u8) -> bool
         | (kind == KIND_INVOICE)
 }
 
-// Each field is used or zero. A listing alone uses D and basis, a registration alone the weight.
+// The basis of a listing, the premium of a registration.
+fn uses_basis(kind: u8) -> bool
+    ensures { λ r. ⌜ r ≡ isUsed (basis .index) (brackets kind) ⌝ }
+{
+    (kind == KIND_REGISTER) | (kind == KIND_LIST)
+}
+
+// Each field is used or zero. A listing alone uses D, a registration alone the weight.
 pub fn unused_zero(c: Call) -> bool
     ensures { λ r. ⌜ r ≡ unusedZero (brackets (c .kind)) 0 (values c) ⌝ }
 {
@@ -56,7 +63,7 @@ pub fn unused_zero(c: Call) -> bool
         & (uses_contract(kind) | (c.contract == 0))
         & ((kind == KIND_LIST) | (c.days == 0))
         & (uses_amount(kind) | (c.amount == 0))
-        & ((kind == KIND_LIST) | units::is_zero(c.basis))
+        & (uses_basis(kind) | units::is_zero(c.basis))
         & ((kind == KIND_REGISTER) | (c.weight == 0))
         & (c.spare == 0)
 }
@@ -76,5 +83,6 @@ pub fn in_range(c: Call) -> bool
         & ((kind != KIND_LIMIT_BID) | units::is_price(amount))
         & ((kind != KIND_QUOTE) | units::is_ask(amount))
         & ((kind != KIND_LIST) | units::is_basis(c.basis))
+        & ((kind != KIND_REGISTER) | units::is_premium(c.basis))
         & ((kind != KIND_REGISTER) | units::is_weight(c.weight))
 }

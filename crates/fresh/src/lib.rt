@@ -32,6 +32,7 @@ use units::ACCOUNTS;
 use units::CONTRACTS;
 use units::Fen;
 use units::Kilograms;
+use units::Premium;
 use units::RECEIPTS;
 use units::YuanPerTonne;
 use zone::Account;
@@ -45,6 +46,7 @@ fn no_receipt() -> Receipt
     Receipt {
         owner: 0,
         weight: Kilograms(0),
+        premium: Premium(0),
         lot: Lot::Idle,
     }
 }

@@ -21,6 +21,7 @@ use rules::Step;
 use rules::View;
 use units::Fen;
 use units::Kilograms;
+use units::Premium;
 use units::RECEIPTS;
 use units::YuanPerTonne;
 use zone::Lot;
@@ -68,6 +69,7 @@ fn record_of_receipt(image: &[u8], n: u8) -> Record
         return zone::record_of(Receipt {
             owner: 0,
             weight: Kilograms(0),
+            premium: Premium(0),
             lot: Lot::Idle,
         });
     }

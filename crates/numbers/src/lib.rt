@@ -133,11 +133,12 @@ fn not_payable(v: View, c: Call, f: Record) -> bool
 {
     let kind = c.kind;
     let basis = f.basis;
+    let premium = f.premium;
     match kind {
-        KIND_LIMIT_BID => !units::is_payable(YuanPerTonne(c.amount as u32), basis),
+        KIND_LIMIT_BID => !units::is_payable(YuanPerTonne(c.amount as u32), basis, premium),
         KIND_MARKET_BID => {
             let ask = v.ask;
-            !units::is_payable(ask, basis)
+            !units::is_payable(ask, basis, premium)
         }
         _ => false,
     }

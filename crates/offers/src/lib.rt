@@ -18,6 +18,7 @@ use rules::View;
 use units::Basis;
 use units::Fen;
 use units::Kilograms;
+use units::Premium;
 use units::YuanPerTonne;
 use zone::Bid;
 use zone::Listing;
@@ -39,6 +40,7 @@ pub fn register_at(c: Call, n: u8) -> AtLot
         Receipt {
             owner: c.account,
             weight: Kilograms(c.weight),
+            premium: Premium(c.basis),
             lot: Lot::Idle,
         },
     )
@@ -174,6 +176,7 @@ pub fn struck_record(v: View, f: Record) -> Record
     let due = due_day(v, f.days);
     let weight = f.weight;
     let basis = f.basis;
+    let premium = f.premium;
     let bid_price = f.price;
     Record {
         owner: f.owner,
@@ -189,6 +192,7 @@ pub fn struck_record(v: View, f: Record) -> Record
         pending: Fen(0),
         confirmed: Fen(0),
         paid: Fen(0),
+        premium: premium,
     }
 }
 

@@ -39,9 +39,13 @@ entryOf lot outcome seller buyer number =
     let parties : ℕ × ℕ = row outcome (buyer, seller) ((7 ∷ 10 ∷ 13 ∷ 15 ∷ [], (seller, buyer)) ∷ (1 ∷ 2 ∷ 3 ∷ [], (seller, 0)) ∷ []) in
     record { lot = lot; outcome = outcome; from = parties .0; to = parties .1; number = number }
 
--- the receipt of record f, its owner and weight kept, with another lot
+-- the receipt of record f with this owner and lot; weight and premium are the receipt's and stay (02 2/12)
+abbrev pub ownedBy : ℕ → Record → Lot → Receipt
+ownedBy owner f lot = record { owner = owner; weight = f .weight; premium = f .premium; lot = lot }
+
+-- the owner kept too, with another lot
 abbrev pub withLot : Record → Lot → Receipt
-withLot f lot = record { owner = f .owner; weight = f .weight; lot = lot }
+withLot f lot = ownedBy (f .owner) f lot
 
 -- the event of lot n, of record f, that becomes `lot`, with an outcome and its number; the parties are the record's
 abbrev pub eventOf : ℕ → Record → Lot → ℕ → ℕ → AtLot
@@ -70,10 +74,11 @@ meetsAsk v price = not (eqb (v .ask .0) 0) && leb (v .ask .0) (price .0)
 
 -- ── The rule of each kind, at lot n of record f ────────────────────────────────────────────────
 
--- 3 register (01 Calls 5): the caller owns a receipt of this weight, with no lot
+-- 3 register (01 Calls 5, 02 2/12): the caller owns a receipt of this weight and premium, with no lot
 unfoldable pub register : Call → ℕ → AtLot
 register c n =
-    Event (entryOf n 1 (c .account) 0 0) (record { owner = c .account; weight = record { 0 = c .weight }; lot = Idle })
+    Event (entryOf n 1 (c .account) 0 0)
+    (record { owner = c .account; weight = record { 0 = c .weight }; premium = record { 0 = c .basis }; lot = Idle })
 
 -- 4 list (01 Calls 6): the caller offers it at a contract, with its days and basis (article 6)
 unfoldable pub listFor : Call → ℕ → Record → AtLot
@@ -123,7 +128,7 @@ hasMoney v f = leb (full f .0) (v .free .buyer .0 + deposit .0)
 -- seller (articles 15 and 20)
 abbrev pub closeLodged : View → ℕ → Record → AtLot
 closeLodged v n f =
-    let bought : Receipt = record { owner = f .buyer; weight = f .weight; lot = Settled (tradeOf f) } in
+    let bought : Receipt = ownedBy (f .buyer) f (Settled (tradeOf f)) in
     cond (hasMoney v f) (Event (entryOf n 8 (f .seller) (f .buyer) (full f .0)) bought) (eventOf n f Idle 12 (deposit .0))
 
 -- of a struck lot that was not lodged (01 Calls 18, 19): with the money the seller owes the penalty from tomorrow on, without it both have defaulted

@@ -1,4 +1,4 @@
--- The numbers 3 to 13 (01 Answers 14 to 24): one test for each, and the table. The byte buffers' own numbers, 1 and 2, stand with the
+-- The numbers 3 to 13 (01 Answers 14 to 24, with the premium of 02 2/12): one test for each, and the table. The byte buffers' own numbers, 1 and 2, stand with the
 -- entry (crz, Returned).
 -- Assumes nothing.
 use mathlib.Core.Bool.{Bool, true, false, not, _&&_, _||_}
@@ -8,7 +8,7 @@ use lib.Dec.{eqb, ltb}
 use lib.IntN.{ℤ, pos, negsuc}
 use lib.ListN.{getD}
 use Rattle.units.specs.Payments.{payable, deposit}
-use Rattle.units.specs.Ranges.{within, isZero, isAccount, isReceipt, isContract, isDays, isPrice, isAsk, isBasis, isWeight, isAmount, moneyLimit, lastDay}
+use Rattle.units.specs.Ranges.{within, isZero, isAccount, isReceipt, isContract, isDays, isPrice, isAsk, isBasis, isPremium, isWeight, isAmount, moneyLimit, lastDay}
 use Rattle.zone.specs.declared.Record.{Record}
 use Rattle.zone.specs.Held.{full, heldFrom}
 use Rattle.rules.specs.declared.Call.{Call}
@@ -33,7 +33,8 @@ abbrev pub natural : (ℕ → Bool) → ℤ → Bool
 natural f (pos n) = f n
 natural f (negsuc n) = false
 
--- The fields, each with the range of its numbers (01 Image 17). One field is an amount, a price, or a price or 0, by its kind.
+-- The fields, each with the range of its numbers (01 Image 17). One field is an amount, a price, or a price or 0, by its
+-- kind, and one a basis or a premium.
 abbrev pub account : Field
 account = record { index = 0; range = natural isAccount }
 
@@ -58,15 +59,18 @@ priceOr0 = record { index = 4; range = natural isAsk }
 abbrev pub basis : Field
 basis = record { index = 5; range = isBasis }
 
+abbrev pub premium : Field
+premium = record { index = 5; range = isPremium }
+
 abbrev pub weight : Field
 weight = record { index = 6; range = natural isWeight }
 
--- the fields that each kind uses, those in its brackets (01 Calls 4 to 25); the spare bytes are in none
+-- the fields that each kind uses, those in its brackets (01 Calls 4 to 25; a registration has a premium, 02 2/12); the spare bytes are in none
 abbrev pub brackets : ℕ → List Field
 brackets kind =
     row kind []
     ((1 ∷ 2 ∷ [], account ∷ amount ∷ [])
-    ∷ (3 ∷ [], account ∷ receipt ∷ weight ∷ [])
+    ∷ (3 ∷ [], account ∷ receipt ∷ premium ∷ weight ∷ [])
     ∷ (4 ∷ [], account ∷ receipt ∷ contract ∷ D ∷ basis ∷ [])
     ∷ (5 ∷ 7 ∷ 8 ∷ 10 ∷ 12 ∷ 14 ∷ [], account ∷ receipt ∷ [])
     ∷ (6 ∷ [], account ∷ receipt ∷ price ∷ [])
@@ -152,12 +156,12 @@ notAbove c f = eqb (c .kind) 6 && not (ltb (f .price .0) (c .amount))
 unfoldable pub lacksAsk : View → Call → Bool
 lacksAsk v c = eqb (c .kind) 7 && eqb (v .ask .0) 0
 
--- 10 (01 Answers 21): price and basis, or ask and basis, leave less than 1 yuan per tonne to pay
+-- 10 (01 Answers 21, 02 2/12): price or ask, basis and premium leave less than 1 yuan per tonne to pay
 unfoldable pub notPayable : View → Call → Record → Bool
 notPayable v c f =
     row (c .kind) false
-    ((6 ∷ [], not (payable (record { 0 = c .amount }) (f .basis)))
-    ∷ (7 ∷ [], not (payable (v .ask) (f .basis)))
+    ((6 ∷ [], not (payable (record { 0 = c .amount }) (f .basis) (f .premium)))
+    ∷ (7 ∷ [], not (payable (v .ask) (f .basis) (f .premium)))
     ∷ [])
 
 -- 11 (01 Answers 22): free money is short of what is taken out, or of the deposit of a bid. The bid that stood is over first, so what the lot holds from

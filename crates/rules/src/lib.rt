@@ -1,6 +1,6 @@
 // The values that the rules read and give, and the entries of events.
 ghost use mathlib.Core.Path.{_≡_};
-ghost use Rattle.rules.specs.Effects.{withLot};
+ghost use Rattle.rules.specs.Effects.{ownedBy, withLot};
 use units::Fen;
 use units::RECEIPTS;
 use units::YuanPerTonne;
@@ -163,16 +163,25 @@ pub enum Step {
 
 // ── Entries and receipts of an event ────────────────────────────────────────────────────────────
 
-// The receipt of a record, with another lot.
+// The receipt of a record, with this owner and lot: weight and premium stay.
+pub fn owned_by(owner: u8, f: Record, lot: Lot) -> Receipt
+    ensures { λ x. ⌜ x ≡ ownedBy owner f lot ⌝ }
+{
+    let weight = f.weight;
+    let premium = f.premium;
+    Receipt {
+        owner: owner,
+        weight: weight,
+        premium: premium,
+        lot: lot,
+    }
+}
+
+// The owner stays too.
 pub fn with_lot(f: Record, lot: Lot) -> Receipt
     ensures { λ x. ⌜ x ≡ withLot f lot ⌝ }
 {
-    let weight = f.weight;
-    Receipt {
-        owner: f.owner,
-        weight: weight,
-        lot: lot,
-    }
+    owned_by(f.owner, f, lot)
 }
 
 // From the buyer to the seller.

@@ -62,6 +62,6 @@ module _ (f : Record) (r : Receipt) (e : r ≡ receiptOf f) (ok : recordValid f 
   state-among ks h = subst (λ (n : ℕ). among n ks ≡ true) same-case (one-of ks (caseOf (r .lot)) h)
 
   -- the record is that of the lot
-  pub lot-record : (lot : Lot) → r .lot ≡ lot → f ≡ recordAs (r .owner) (r .weight) lot
+  pub lot-record : (lot : Lot) → r .lot ≡ lot → f ≡ recordAs (r .owner) (r .weight) (r .premium) lot
   unfolding recordOf
-  lot-record lot h = sym (record-back f ok) ∙ ap recordOf (sym e) ∙ ap (recordAs (r .owner) (r .weight)) h
+  lot-record lot h = sym (record-back f ok) ∙ ap recordOf (sym e) ∙ ap (recordAs (r .owner) (r .weight) (r .premium)) h

@@ -6,6 +6,7 @@ use mathlib.Core.Path.{_≡_, sym, ap, _∙_, subst}
 use Prim.Native.Nat.{ℕ, _+_, _^_, _≤_, _<_}
 use native.Mathlib.Omega.{arith}
 use Rattle.units.specs.declared.Kilograms.{Kilograms}
+use Rattle.units.specs.declared.Premium.{Premium}
 use Rattle.units.specs.Ranges.{accountCount, receiptCount}
 use Rattle.zone.specs.declared.Account.{Account}
 use Rattle.zone.specs.declared.Receipt.{Receipt}
@@ -46,7 +47,7 @@ pub record Pays (l : List Account) (f : Record) (e : Entry) (r′ : Receipt) : T
 pub record Fit (l : List Account) (n : ℕ) (f : Record) (e : Entry) (r′ : Receipt) : Type 0 where
   pub entry : EntryOk n e
   pub pays : Pays l f e r′
-  pub known : LotIn (r′ .owner) (r′ .weight) (r′ .lot)
+  pub known : LotIn (r′ .owner) (r′ .weight) (r′ .premium) (r′ .lot)
 
 -- the receipt after the event is valid
 pub fit-valid : {l : List Account} {n : ℕ} {f : Record} {e : Entry} {r′ : Receipt} → Fit l n f e r′ → recordValid (recordOf r′) ≡ true
@@ -95,7 +96,7 @@ paying {l} {f} {e} {r′} t a b h =
     }
 
 -- a registered receipt with no lot
-pub idle-in : {o : ℕ} {w : Kilograms} → Owned o w → IdleIn o w
+pub idle-in : {o : ℕ} {w : Kilograms} {p : Premium} → Owned o w p → IdleIn o w p
 idle-in O = record { unregistered = λ e. absurd (omega (arith, O .owner .low)); registered = λ _. O }
 
 -- ── A good zone stays good ─────────────────────────────────────────────────────────────────────

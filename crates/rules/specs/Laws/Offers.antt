@@ -64,7 +64,7 @@ module _ (z : Zone) (day : InRange 1 lastDay (z .day)) (c : Call) (n : ℕ) (f :
       event (record {
         entry = omega arith;
         pays = quiet refl refl;
-        known = idle-in (record { owner = a; weight = range-in (R .1 .1 .0) });
+        known = idle-in (record { owner = a; weight = range-in (R .1 .1 .1 .0); premium = R .1 .1 .0 });
       })
 
   pub list-fit : Tested z c f 4 → FitsAt z n f (listFor (withKind c 4) n f)
@@ -101,7 +101,7 @@ module _ (z : Zone) (day : InRange 1 lastDay (z .day)) (c : Call) (n : ℕ) (f :
   -- ── Bids ─────────────────────────────────────────────────────────────────────────────────────
 
   -- a bid on a listing with the money for its deposit, struck and standing
-  module _ (b : Bid) (s : InRange 1 2 (f .state)) (B : BidIn (listingOf f) b)
+  module _ (b : Bid) (s : InRange 1 2 (f .state)) (B : BidIn (f .premium) (listingOf f) b)
       (m : perReceipt ≤ freeOf (z .accounts) (b .buyer) .0 + heldFrom (b .buyer) f) where
     struck-fit : FitsAt z n f (bidStruck (viewOf z (c .account) f) n f b)
     unfolding moneyOf held recordOf viewOf
@@ -139,7 +139,7 @@ module _ (z : Zone) (day : InRange 1 lastDay (z .day)) (c : Call) (n : ℕ) (f :
       let R = ranges P in
       let b : Bid = record { buyer = c .account; price = record { 0 = c .amount } } in
       let s : InRange 1 2 (f .state) = offered (in-state P) in
-      let B : BidIn (listingOf f) b = record {
+      let B : BidIn (f .premium) (listingOf f) b = record {
         buyer = range-in (R .0);
         price = R .1 .1 .0;
         differ = eqb-false _ _ (not-true _ (by-party P));

@@ -53,13 +53,13 @@ module _ (f : Record) (ok : recordValid f ≡ true) where
       let e : within 1 6 (f .state) ≡ true = inside 1 6 (f .state) s t in
       record { seller = seller-in s; contract = L .contract .yes e; days = L .days .yes e; basis = L .basis .yes e }
 
-  pub bid-in : 2 ≤ f .state → f .state ≤ 6 → BidIn (listingOf f) (bidOf f)
+  pub bid-in : 2 ≤ f .state → f .state ≤ 6 → BidIn (f .premium) (listingOf f) (bidOf f)
   bid-in s t =
       let B = used (omega arith) .fields .bid in
       let e : within 2 6 (f .state) ≡ true = inside 2 6 (f .state) s t in
       record { buyer = buyer-in s; price = B .price .yes e; differ = differ-in s; pays = B .pays e }
 
-  pub trade-in : 3 ≤ f .state → f .state ≤ 6 → TradeIn (tradeOf f)
+  pub trade-in : 3 ≤ f .state → f .state ≤ 6 → TradeIn (f .premium) (tradeOf f)
   trade-in s t =
       record {
         listing = listing-in (omega arith) t;
@@ -76,11 +76,11 @@ module _ (f : Record) (ok : recordValid f ≡ true) where
 
 -- whose the receipt is
 module _ (f : Record) (ok : recordValid f ≡ true) where
-  pub owned-in : 1 ≤ f .state → Owned (f .owner) (f .weight)
+  pub owned-in : 1 ≤ f .state → Owned (f .owner) (f .weight) (f .premium)
   owned-in s = used f ok s .fields .owned
 
   -- a registered receipt in any state
-  pub owned-some : f .owner ≢ 0 → Owned (f .owner) (f .weight)
+  pub owned-some : f .owner ≢ 0 → Owned (f .owner) (f .weight) (f .premium)
   owned-some n = known f ok n .fields .owned
 
   pub sellers : 1 ≤ f .state → f .state ≤ 4 → f .owner ≡ f .seller

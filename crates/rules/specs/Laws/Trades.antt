@@ -24,7 +24,7 @@ use Rattle.zone.specs.Valid.{recordValid}
 use Rattle.rules.specs.declared.Call.{Call}
 use Rattle.rules.specs.declared.AtLot.{AtLot}
 use Rattle.rules.specs.declared.AtLot.the-variants.{Event}
-use Rattle.rules.specs.Effects.{withLot, eventOf, entryOf, hasMoney, lodge, closeLot, payFirst, sendInvoice, confirm}
+use Rattle.rules.specs.Effects.{withLot, eventOf, entryOf, hasMoney, lodge, closeLot, payFirst, sendInvoice, confirm, ownedBy}
 use Rattle.rules.specs.Events.{moneyOf}
 use Rattle.rules.specs.Laws.Chain.{event, chosen, only}
 use Rattle.rules.specs.Laws.Fit.{Fit, quiet, holding, kept, ending, paying, idle-in}
@@ -39,7 +39,7 @@ use Rattle.rules.specs.View.{freeOf, viewOf}
 
 -- a lot of state 4 whose buyer has the money
 abbrev closeSettled : ℕ → Record → AtLot
-closeSettled n f = Event (entryOf n 8 (f .seller) (f .buyer) (full f .0)) (record { owner = f .buyer; weight = f .weight; lot = Settled (tradeOf f) })
+closeSettled n f = Event (entryOf n 8 (f .seller) (f .buyer) (full f .0)) (ownedBy (f .buyer) f (Settled (tradeOf f)))
 
 -- what becomes of a lot whose invoice is confirmed below full
 abbrev goingOn : Record → Lot
@@ -71,6 +71,7 @@ module _ (z : Zone) (day : InRange 1 lastDay (z .day)) (c : Call) (n : ℕ) (f :
   settled s m =
       let p : Parties f = parties f ok (omega arith) in
       let F : InRange 100 mostFull (full f .0) = full-in f ok (omega arith) (omega arith) in
+      let O = owned-in f ok (omega arith) in
       event (record {
         entry = omega arith;
         pays = holding refl (omega (
@@ -80,7 +81,7 @@ module _ (z : Zone) (day : InRange 1 lastDay (z .day)) (c : Call) (n : ℕ) (f :
           held-deposit f (omega arith) (omega arith),
         ));
         known = record {
-          owned = record { owner = p .buyer; weight = owned-in f ok (omega arith) .weight };
+          owned = record { owner = p .buyer; weight = O .weight; premium = O .premium };
           owner = refl;
           trade = trade-in f ok (omega arith) (omega arith);
         };
@@ -143,7 +144,7 @@ module _ (z : Zone) (day : InRange 1 lastDay (z .day)) (c : Call) (n : ℕ) (f :
 
   -- a lot that is in state 6 after the event
   first-paid : {i : Invoices} → 5 ≤ f .state → f .state ≤ 6 → InvoicesIn (full f) i
-      → FirstPaidIn (f .owner) (f .weight) (tradeOf f) i
+      → FirstPaidIn (f .owner) (f .weight) (f .premium) (tradeOf f) i
   unfolding full
   first-paid {i} s t I =
       record {
