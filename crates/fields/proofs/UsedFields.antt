@@ -1,12 +1,12 @@
 -- The fields that a kind uses, at every kind.
 -- Assumes nothing.
-use mathlib.Core.Bool.{Bool, false, not, _&&_, _||_, and-true, and-false, and-assoc}
+use mathlib.Core.Bool.{Bool, true, false, not, _&&_, _||_, and-true, and-false, and-assoc}
 use mathlib.Core.List.{List}
 use mathlib.Core.Path.{_≡_, refl}
 use Prim.Native.Nat.{ℕ, zero, suc}
 use lib.Dec.{eqb, leb, leb·zero, leb·suc-zero, eqb·suc-zero}
 use lib.IntN.{pos}
-use Rattle.units.specs.Ranges.{isZero, isAccount, isReceipt, isContract, isDays, isPrice, isAsk, isBasis, isWeight, isAmount}
+use Rattle.units.specs.Ranges.{isZero, isAccount, isReceipt, isContract, isDays, isPrice, isAsk, isBasis, isPremium, isWeight, isAmount}
 use Rattle.rules.specs.declared.Call.{Call}
 use Rattle.rules.specs.Laws.EveryKind.{no-kind, each-kind, every-kind}
 use Rattle.rules.specs.Numbers.{Field, brackets, isUsed, unusedZero, values, inRange}
@@ -30,8 +30,8 @@ days-used = every-kind (λ k. eqb k 4) (λ k. isUsed 3 (brackets k)) refl (λ n 
 pub amount-used : (k : ℕ) → (eqb k 1 || eqb k 2 || eqb k 6 || eqb k 9 || eqb k 13) ≡ isUsed 4 (brackets k)
 amount-used = every-kind (λ k. eqb k 1 || eqb k 2 || eqb k 6 || eqb k 9 || eqb k 13) (λ k. isUsed 4 (brackets k)) refl (λ n h. simp (no-kind, and-false))
 
-pub basis-used : (k : ℕ) → (eqb k 4) ≡ isUsed 5 (brackets k)
-basis-used = every-kind (λ k. eqb k 4) (λ k. isUsed 5 (brackets k)) refl (λ n h. simp (no-kind, and-false))
+pub basis-used : (k : ℕ) → (eqb k 3 || eqb k 4) ≡ isUsed 5 (brackets k)
+basis-used = every-kind (λ k. eqb k 3 || eqb k 4) (λ k. isUsed 5 (brackets k)) refl (λ n h. simp (no-kind, and-false))
 
 pub weight-used : (k : ℕ) → (eqb k 3) ≡ isUsed 6 (brackets k)
 weight-used = every-kind (λ k. eqb k 3) (λ k. isUsed 6 (brackets k)) refl (λ n h. simp (no-kind, and-false))
@@ -62,10 +62,18 @@ module _ (c : Call) where
       && (not (eqb k 6) || isPrice (c .amount))
       && (not (eqb k 9) || isAsk (c .amount))
       && (not (eqb k 4) || isBasis (c .basis))
+      && (not (eqb k 3) || isPremium (c .basis))
       && (not (eqb k 3) || isWeight (c .weight))
+
+  -- of a registration
+  registered : ranges 3 ≡ inRange (brackets 3) (values c)
+  registered = go (isAccount (c .account)) (isReceipt (c .receipt)) (isPremium (c .basis)) (isWeight (c .weight))
+    where
+      go : (a r p w : Bool) → a && r && true && true && true && true && true && true && p && w ≡ a && (r && (p && (w && true)))
+      go a r p w = simp flat
 
   pub all-in-range : (k : ℕ) → ranges k ≡ inRange (brackets k) (values c)
   all-in-range =
       each-kind (λ k. ranges k ≡ inRange (brackets k) (values c))
-      (simp flat, simp flat, simp flat, simp flat, simp flat, simp flat, simp flat, simp flat, simp flat, simp flat, simp flat, simp flat, simp flat, simp flat, simp flat, simp flat)
+      (simp flat, simp flat, simp flat, registered, simp flat, simp flat, simp flat, simp flat, simp flat, simp flat, simp flat, simp flat, simp flat, simp flat, simp flat, simp flat)
       (λ n h. simp no-kind)

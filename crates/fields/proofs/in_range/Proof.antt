@@ -44,27 +44,31 @@ is-ask-requires c κs = search needs
 is-basis-requires : tie.Need-is-basis-requires
 is-basis-requires c κs = search needs
 
+is-premium-requires : tie.Need-is-premium-requires
+is-premium-requires c κs = search needs
+
 is-weight-requires : tie.Need-is-weight-requires
 is-weight-requires c κs = search needs
 
 returns : tie.Need-returns
 returns c =
     rw (
-      c .before .before .before .before .before .before .before .before .before .before .before .before .uses-account .ensures,
-      c .before .before .before .before .before .before .before .before .before .before .before .is-account .ensures,
-      c .before .before .before .before .before .before .before .before .before .before .uses-receipt .ensures,
-      c .before .before .before .before .before .before .before .before .before .is-receipt .ensures,
-      c .before .before .before .before .before .before .before .before .uses-contract .ensures,
-      c .before .before .before .before .before .before .before .is-contract .ensures,
-      c .before .before .before .before .before .before .is-days .ensures,
-      c .before .before .before .before .before .is-amount .ensures,
-      c .before .before .before .before .is-price .ensures,
-      c .before .before .before .is-ask .ensures,
-      c .before .is-basis .ensures,
+      c .before .before .before .before .before .before .before .before .before .before .before .before .before .before .uses-account .ensures,
+      c .before .before .before .before .before .before .before .before .before .before .before .before .before .is-account .ensures,
+      c .before .before .before .before .before .before .before .before .before .before .before .before .uses-receipt .ensures,
+      c .before .before .before .before .before .before .before .before .before .before .before .is-receipt .ensures,
+      c .before .before .before .before .before .before .before .before .before .before .uses-contract .ensures,
+      c .before .before .before .before .before .before .before .before .before .is-contract .ensures,
+      c .before .before .before .before .before .before .before .before .is-days .ensures,
+      c .before .before .before .before .before .before .before .is-amount .ensures,
+      c .before .before .before .before .before .before .is-price .ensures,
+      c .before .before .before .before .before .is-ask .ensures,
+      c .before .before .before .is-basis .ensures,
+      c .before .is-premium .ensures,
       c .is-weight .ensures,
-      kept (c .before .before .before .before .before .before .before .before .before .before .before .before .before),
+      kept (c .before .before .before .before .before .before .before .before .before .before .before .before .before .before .before),
     )
-    (all-in-range (c .before .before .before .before .before .before .before .before .before .before .before .before .before .args .c) (c .before .before .before .before .before .before .before .before .before .before .before .before .before .args .c .kind))
+    (all-in-range (c .before .before .before .before .before .before .before .before .before .before .before .before .before .before .before .args .c) (c .before .before .before .before .before .before .before .before .before .before .before .before .before .before .before .args .c .kind))
 
 pub in-range-spec : {M : Type 1} → statement M
 in-range-spec =
@@ -81,5 +85,6 @@ in-range-spec =
     is-price-requires
     is-ask-requires
     is-basis-requires
+    is-premium-requires
     is-weight-requires
     returns)

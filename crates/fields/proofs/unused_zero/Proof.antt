@@ -4,7 +4,7 @@ use mir.Val.{toZ, ofZ}
 use mir.Facts.{toZ-ofZ}
 use Rattle.units.specs.Ranges.{isZero}
 use Rattle.rules.specs.Numbers.{brackets}
-use Rattle.fields.proofs.UsedFields.{days-used, basis-used, weight-used, spare-unused, unused}
+use Rattle.fields.proofs.UsedFields.{days-used, weight-used, spare-unused, unused}
 use borrow.Author.Needs.{needs}
 use Rattle.fields.proofs.unused_zero.Statement.{statement}
 use Rattle.fields.proofs.unused_zero.Tie as tie
@@ -21,6 +21,9 @@ uses-contract-requires c κs = search needs
 uses-amount-requires : tie.Need-uses-amount-requires
 uses-amount-requires c κs = search needs
 
+uses-basis-requires : tie.Need-uses-basis-requires
+uses-basis-requires c κs = search needs
+
 is-zero-requires : tie.Need-is-zero-requires
 is-zero-requires c κs = search needs
 
@@ -30,18 +33,18 @@ kept c = toZ-ofZ (search needs)
 
 returns : tie.Need-returns
 returns c =
-    let start = c .before .before .before .before .before .before .before .before .before .before .before .before .before in
+    let start = c .before .before .before .before .before .before .before .before .before .before .before .before .before .before in
     let k = start .args .c .kind in
     unused
     (brackets k)
     (start .args .c)
     _ _ _ _ _ _ _ _
-    (c .before .before .before .before .before .before .before .before .before .before .before .before .uses-account .ensures)
-    (c .before .before .before .before .before .before .before .before .before .before .uses-receipt .ensures)
-    (c .before .before .before .before .before .before .before .before .uses-contract .ensures)
+    (c .before .before .before .before .before .before .before .before .before .before .before .before .before .uses-account .ensures)
+    (c .before .before .before .before .before .before .before .before .before .before .before .uses-receipt .ensures)
+    (c .before .before .before .before .before .before .before .before .before .uses-contract .ensures)
     (days-used k)
-    (c .before .before .before .before .before .uses-amount .ensures)
-    (basis-used k)
+    (c .before .before .before .before .before .before .uses-amount .ensures)
+    (c .before .before .before .before .uses-basis .ensures)
     (weight-used k)
     (spare-unused k)
     (c .before .before .is-zero .ensures ∙ ap isZero (kept start))
@@ -54,5 +57,6 @@ unused-zero-spec =
     uses-receipt-requires
     uses-contract-requires
     uses-amount-requires
+    uses-basis-requires
     is-zero-requires
     returns)

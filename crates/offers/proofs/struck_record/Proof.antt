@@ -10,7 +10,7 @@ due-day-requires c κs = omega (arith, bounds (c .args .f) (c .pre .valid) .days
 
 returns : tie.Need-returns
 unfolding recordOf
-returns c = rw (c .before .before .before .due-day .ensures)
+returns c = rw (c .before .before .before .before .due-day .ensures)
 
 pub struck-record-spec : {M : Type 1} → statement M
 struck-record-spec = tie.close (tie.spec due-day-requires returns)
