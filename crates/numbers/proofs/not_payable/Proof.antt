@@ -5,8 +5,8 @@ use borrow.Author.Needs.{needs}
 use Rattle.numbers.proofs.not_payable.Statement.{statement}
 use Rattle.numbers.proofs.not_payable.Tie as tie
 
-cast-t9 : tie.Need-cast-t9
-cast-t9 c = omega (arith, c .before .before .before .pre (c .before .match .keys1))
+cast-t10 : tie.Need-cast-t10
+cast-t10 c = omega (arith, c .before .before .before .before .pre (c .before .match .keys1))
 
 is-payable-requires : tie.Need-is-payable-requires
 is-payable-requires c κs = search needs
@@ -20,7 +20,7 @@ returns c = rw (eq-eqb _ _ (c .before .before .match .keys1), c .is-payable .ens
 
 returns-2 : tie.Need-returns-2
 unfolding notPayable
-returns-2 c = rw (ne-eqb (c .before .before .before .before .args .c .kind) 6 (omega arith), eq-eqb _ _ (c .before .before .match .keys2), c .is-payable2 .ensures)
+returns-2 c = rw (ne-eqb (c .before .before .before .before .before .args .c .kind) 6 (omega arith), eq-eqb _ _ (c .before .before .match .keys2), c .is-payable2 .ensures)
 
 returns-3 : tie.Need-returns-3
 unfolding notPayable
@@ -29,4 +29,4 @@ returns-3 c = rw (ne-eqb _ _ (c .match .rest .0 .1), ne-eqb _ _ (c .match .rest 
 pub not-payable-spec : {M : Type 1} → statement M
 not-payable-spec =
     tie.close
-    (tie.spec cast-t9 is-payable-requires is-payable-requires-2 returns returns-2 returns-3)
+    (tie.spec cast-t10 is-payable-requires is-payable-requires-2 returns returns-2 returns-3)
