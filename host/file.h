@@ -10,7 +10,7 @@ int file_create(const char *path, const uint8_t *bytes, size_t length);
 /* Opens the folder that a path lies in, for making its names durable; -1 after a message. */
 int file_folder(const char *path);
 
-/* Before there were premiums, a receipt ended where its premium stands now. */
+/* Images of programs before 2.0.0: a receipt ended where its premium stands now. */
 enum {
     FILE_OLDER_RECEIPT = CRZ_RECEIPT_PREMIUM,
     FILE_OLDER_IMAGE = CRZ_IMAGE_RECEIPTS + CRZ_RECEIPT_COUNT * FILE_OLDER_RECEIPT

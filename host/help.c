@@ -63,9 +63,8 @@ static const struct help helps[] = {
             "has. In an afternoon that is tomorrow's close.\n"},
     {"import", "crz import FILE IMAGE\n"
                "\n"
-               "Makes a new zone that starts with a raw image, as a host of its own keeps it. An image of a program "
-               "from before\n"
-               "there were premiums is taken too: its receipts get premium 0, and all else stays.\n"},
+               "Makes a new zone that starts with a raw image, as a host of its own keeps it. An image without\n"
+               "premiums, of a program before 2.0.0, is taken too: every receipt gets premium 0, all else stays.\n"},
     {"export", "crz export FILE IMAGE  [--wait SECONDS]\n"
                "\n"
                "Writes the zone's image into a new file, as the library has it in memory.\n"},

@@ -72,6 +72,8 @@ ends 2 "grouped in another way" call zone pay-in account 3 fen 0,005
 ends 2 "grouped in another way" call zone pay-in account 3 fen 000,123
 ends 2 "register: 'premium' is no field; did you mean 'premium-yuan'?" \
     call zone register account 3 receipt 1 kilograms 41237 premium 5
+ends 2 "list: 'basis' is no field; did you mean 'basis-yuan'?" \
+    call zone list account 3 receipt 1 contract 1 days 0 basis 5
 ends 2 "register: 'kilograms' is missing" call zone register account 3 receipt 1 premium-yuan 5
 ends 2 "register: 'premium-yuan' has no value" call zone register account 3 receipt 1 kilograms 41237 premium-yuan
 ends 2 "register: 'premium-yuan' is there twice" \
