@@ -4,7 +4,7 @@ import ctypes
 import struct
 import sys
 
-IMAGE, ANSWER = 5696, 1040
+IMAGE, ANSWER = 6208, 1040
 library = ctypes.CDLL(sys.argv[1])
 library.crz_fresh.argtypes = [ctypes.c_char_p, ctypes.c_size_t]
 library.crz_call.argtypes = [ctypes.c_char_p, ctypes.c_size_t] * 3
@@ -24,8 +24,8 @@ def call(image, kind, account=0, receipt=0, contract=0, days=0, amount=0, basis=
 zone = ctypes.create_string_buffer(IMAGE)
 library.crz_fresh(zone, IMAGE)
 print(call(zone, 1, account=11, amount=100_000_000))                  # pay-in
-print(call(zone, 3, account=1, receipt=1, weight=41_237))             # register
-print(call(zone, 4, account=1, receipt=1, contract=1, basis=300))     # list
+print(call(zone, 3, account=1, receipt=1, weight=41_237, basis=100))  # register: the premium stands as basis
+print(call(zone, 4, account=1, receipt=1, contract=1, basis=200))     # list
 print(call(zone, 6, account=11, receipt=1, amount=15_003))            # limit-bid: no multiple of 5
 print(call(zone, 6, account=11, receipt=1, amount=15_000))            # limit-bid
 print(call(zone, 9, contract=1, amount=14_995))                       # quote: strikes lot 1 at 15,000

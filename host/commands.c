@@ -225,8 +225,10 @@ enum status command_new(const struct request *request)
 enum status command_import(const struct request *request)
 {
     const char *path = request->words[0];
-    enum status status = zone_import(path, request->words[1]);
-    return status == STATUS_ACCEPTED ? show_file(path, "a zone with that image,", 0) : status;
+    int older = 0;
+    enum status status = zone_import(path, request->words[1], &older);
+    const char *what = older ? "a zone with that older image, every premium 0," : "a zone with that image,";
+    return status == STATUS_ACCEPTED ? show_file(path, what, 0) : status;
 }
 
 /* ── Reading ───────────────────────────────────────────────────────────────────────────────────── */

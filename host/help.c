@@ -24,7 +24,8 @@ static const struct help helps[] = {
         "  --wait SECONDS   how long to wait for another program, 10 if not given\n"
         "  --json           the answer as an object\n"
         "\n"
-        "Money is in fen, prices and basis in yuan per tonne, weights in kilograms; 1,234,567 is taken as 1234567.\n"
+        "Money is in fen, prices, basis and premium in yuan per tonne, weights in kilograms; 1,234,567 is taken as\n"
+        "1234567.\n"
         "The kinds, with their fields, who may make them and what they do:\n"},
     {"play",
         "crz play FILE SCRIPT  [--expect N] [--stop] [--wait SECONDS] [--json]\n"
@@ -62,7 +63,8 @@ static const struct help helps[] = {
             "has. In an afternoon that is tomorrow's close.\n"},
     {"import", "crz import FILE IMAGE\n"
                "\n"
-               "Makes a new zone that starts with a raw image, as a host of its own keeps it.\n"},
+               "Makes a new zone that starts with a raw image, as a host of its own keeps it. An image without\n"
+               "premiums, of a program before 2.0.0, is taken too: every receipt gets premium 0, all else stays.\n"},
     {"export", "crz export FILE IMAGE  [--wait SECONDS]\n"
                "\n"
                "Writes the zone's image into a new file, as the library has it in memory.\n"},

@@ -194,6 +194,7 @@ static void put_lot(uint32_t lot, const struct crz_receipt_fields *r)
     json_words("state", state_words[r->state]);
     json_number("owner", r->owner);
     json_number("kilograms", r->weight);
+    json_signed("premium_yuan", r->premium);
     json_if(r->seller != 0, "seller", r->seller);
     json_if(r->buyer != 0, "buyer", r->buyer);
     json_if(r->contract != 0, "contract", r->contract);

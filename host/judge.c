@@ -33,18 +33,31 @@ static int header_ours(const uint8_t *header)
            && big_endian(header + 64) == 0 && memcmp(header + 72, zeros, 20) == 0;
 }
 
+/* What an older program exports can be imported; a newer one is to be used itself. */
+static int other_format(const char *name, unsigned format)
+{
+    if (format > STORE_FORMAT)
+        return report(name,
+            "is a zone of the newer format %u; this program knows format %d and leaves the file as it was; use the "
+            "program that made it",
+            format, STORE_FORMAT);
+    return report(name,
+        "is a zone of the older format %u; this program knows format %d and leaves the file as it was; the program "
+        "that made it writes its image with 'crz export %s IMAGE', and 'crz import ZONE IMAGE' here takes that",
+        format, STORE_FORMAT, name);
+}
+
 static int judge_header(const char *name, enum store_use use, const uint8_t *header, ssize_t has, off_t length)
 {
     static const char magic[16] = "SQLite format 3";
     if (has < 0)
         return report(name, "cannot be read: %s", strerror(errno));
-    if (length == CRZ_IMAGE_LENGTH)
+    if (length == CRZ_IMAGE_LENGTH || length == FILE_OLDER_IMAGE)
         return report(name, "is no zone; if it is a raw image, 'crz import ZONE %s' makes a zone from it", name);
     if (has < HEADER || memcmp(header, magic, sizeof magic) != 0 || big_endian(header + 68) != JUDGE_APPLICATION)
         return report(name, "is no zone; name a file that 'crz new' or 'crz import' has made");
     if (big_endian(header + 60) != STORE_FORMAT)
-        return report(
-            name, "is a zone of format %u; this program knows format %d", big_endian(header + 60), STORE_FORMAT);
+        return other_format(name, big_endian(header + 60));
     return header_ours(header) ? 0 : store_damaged(name, use, "its header is changed");
 }
 

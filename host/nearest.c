@@ -41,6 +41,13 @@ static unsigned edits(const char *a, const char *b)
     return rows[length % 3][strlen(b)];
 }
 
+/* Whether the word is the beginning of a longer one. */
+static int begins(const char *word, const char *longer)
+{
+    size_t length = strlen(word);
+    return length >= 3 && strncmp(word, longer, length) == 0;
+}
+
 struct nearest nearest_to(const char *word)
 {
     return (struct nearest){word, NULL, 1 + least(3, (unsigned)(strlen(word) / 2))};
@@ -50,7 +57,7 @@ void nearest_try(struct nearest *nearest, const char *candidate)
 {
     if (strlen(nearest->word) > LONGEST || strlen(candidate) > LONGEST)
         return;
-    unsigned distance = edits(nearest->word, candidate);
+    unsigned distance = begins(nearest->word, candidate) ? 1 : edits(nearest->word, candidate);
     if (distance >= nearest->distance)
         return;
     nearest->best = candidate;

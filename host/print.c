@@ -171,7 +171,8 @@ static void print_lots(const uint8_t *image, uint32_t state)
         struct crz_receipt_fields r = crz_get_receipt(image, n);
         if (r.owner == 0 || r.state != state)
             continue;
-        printf("  lot %u: %s, owner %u, %s kilograms", n, state_words[state], r.owner, grouped(r.weight).text);
+        printf("  lot %u: %s, owner %u, %s kilograms, premium %s yuan per tonne", n, state_words[state], r.owner,
+            grouped(r.weight).text, grouped_signed(r.premium).text);
         print_parties(&r);
         print_terms(&r);
         print_money(&r);

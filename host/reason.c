@@ -31,7 +31,7 @@ static const char *const reasons[] = {
     [CRZ_NUMBER_WRONG_PARTY] = "not the party that may make this call",
     [CRZ_NUMBER_NOT_ABOVE] = "not above the standing bid",
     [CRZ_NUMBER_NO_ASK] = "the contract has no ask",
-    [CRZ_NUMBER_NOTHING_TO_PAY] = "price and basis leave nothing to pay",
+    [CRZ_NUMBER_NOTHING_TO_PAY] = "price, basis and premium leave nothing to pay",
     [CRZ_NUMBER_NO_MONEY] = "not enough free money",
     [CRZ_NUMBER_OVER_LIMIT] = "the zone's total would pass its limit",
     [CRZ_NUMBER_OVER_INVOICE] = "the invoice is above what is left to invoice",
@@ -138,8 +138,10 @@ static void nothing_to_pay(struct seen *seen)
 {
     int limit = seen->call.kind == CRZ_KIND_LIMIT_BID;
     int64_t price = limit ? (int64_t)seen->call.amount : crz_get_ask(seen->image, seen->lot.contract);
-    say(seen, "%s %s and basis %s make %s yuan per tonne, at least 1 is needed", limit ? "price" : "ask",
-        grouped_signed(price).text, grouped_signed(seen->lot.basis).text, grouped_signed(price + seen->lot.basis).text);
+    int64_t sum = price + seen->lot.basis + seen->lot.premium;
+    say(seen, "%s %s, basis %s and premium %s make %s yuan per tonne, at least 1 is needed", limit ? "price" : "ask",
+        grouped_signed(price).text, grouped_signed(seen->lot.basis).text, grouped_signed(seen->lot.premium).text,
+        grouped_signed(sum).text);
 }
 
 static void over_invoice(struct seen *seen)

@@ -16,6 +16,8 @@ const struct field_words fields[FIELDS] = {
         CRZ_BASIS_MOST, 1},
     [FIELD_KILOGRAMS] = {"kilograms", "kilograms", CRZ_CALL_WEIGHT, 4, 0, UINT32_MAX, CRZ_WEIGHT_LEAST, CRZ_WEIGHT_MOST,
         1},
+    [FIELD_PREMIUM] = {"premium-yuan", "premium_yuan", CRZ_CALL_BASIS, 4, INT32_MIN, INT32_MAX, CRZ_PREMIUM_LEAST,
+        CRZ_PREMIUM_MOST, 1},
 };
 
 const char *const state_words[STATES] = {
@@ -33,12 +35,17 @@ const char *const state_words[STATES] = {
 #define MONEY (BIT(FIELD_ACCOUNT) | BIT(FIELD_FEN))
 #define LOT (BIT(FIELD_ACCOUNT) | BIT(FIELD_RECEIPT))
 #define TERMS (BIT(FIELD_CONTRACT) | BIT(FIELD_DAYS) | BIT(FIELD_BASIS))
+#define BALES (BIT(FIELD_KILOGRAMS) | BIT(FIELD_PREMIUM))
 #define OPEN (BIT(CRZ_STATE_LISTED) | BIT(CRZ_STATE_BID_STANDS))
+
+/* What scripts from before there were premiums do not name: left out, it is 0. */
+#define OPTIONAL BIT(FIELD_PREMIUM)
 
 static const struct kind_words kinds[] = {
     {"pay-in", CRZ_KIND_PAY_IN, MONEY, PARTY_ANYONE, 0, "adds to the account's free money"},
     {"take-out", CRZ_KIND_TAKE_OUT, MONEY, PARTY_ANYONE, 0, "takes from the account's free money"},
-    {"register", CRZ_KIND_REGISTER, LOT | BIT(FIELD_KILOGRAMS), PARTY_ANYONE, 0, "gives a new receipt its owner"},
+    {"register", CRZ_KIND_REGISTER, LOT | BALES, PARTY_ANYONE, 0,
+        "gives a new receipt its owner, and the premium or discount that it keeps"},
     {"list", CRZ_KIND_LIST, LOT | TERMS, PARTY_OWNER, BIT(CRZ_STATE_IDLE), "offers the receipt for sale"},
     {"withdraw-listing", CRZ_KIND_WITHDRAW_LISTING, LOT, PARTY_SELLER, OPEN, "ends the offer and a bid on it"},
     {"limit-bid", CRZ_KIND_LIMIT_BID, LOT | BIT(FIELD_YUAN), PARTY_NOT_SELLER, OPEN,
@@ -163,7 +170,7 @@ static int field_awaited(const struct kind_words *kind, unsigned left, const cha
 static int none_missing(const struct kind_words *kind, unsigned left, char *message, size_t length)
 {
     unsigned f = 0;
-    while (f < FIELDS && !(left & BIT(f)))
+    while (f < FIELDS && !(left & ~OPTIONAL & BIT(f)))
         f++;
     if (f < FIELDS)
         snprintf(message, length, "%s: '%s' is missing", kind->word, fields[f].word);
@@ -201,7 +208,7 @@ int call_from_words(uint8_t call[CRZ_CALL_LENGTH], char **words, int count, char
 
 int64_t call_field(const uint8_t call[CRZ_CALL_LENGTH], enum field field)
 {
-    if (field == FIELD_BASIS)
+    if (field == FIELD_BASIS || field == FIELD_PREMIUM)
         return crz_get_i32(call + CRZ_CALL_BASIS);
     return (int64_t)crz_get_bytes(call + fields[field].offset, fields[field].width);
 }
@@ -224,7 +231,7 @@ void print_kind(const struct kind_words *kind)
     printf("  %s", kind->word);
     for (unsigned f = 0; f < FIELDS; f++)
         if (kind->takes & BIT(f))
-            printf(" %s N", fields[f].word);
+            printf(BIT(f) & OPTIONAL ? " [%s N]" : " %s N", fields[f].word);
     printf("\n      %s: %s\n", party_words(kind->party), kind->what);
 }
 
@@ -233,10 +240,12 @@ void print_ranges(unsigned takes)
     for (unsigned f = 0; f < FIELDS; f++) {
         if (!(takes & BIT(f)))
             continue;
-        printf("  %-10s  %s to %s", fields[f].word, grouped_signed(fields[f].least).text,
+        printf("  %-12s  %s to %s", fields[f].word, grouped_signed(fields[f].least).text,
             grouped_signed(fields[f].most).text);
         if (fields[f].step > 1)
             printf(" in steps of %s", grouped_signed(fields[f].step).text);
+        if (BIT(f) & OPTIONAL)
+            printf("; 0 where it is left out");
         putchar('\n');
     }
 }

@@ -16,6 +16,7 @@ enum field {
     FIELD_YUAN,
     FIELD_BASIS,
     FIELD_KILOGRAMS,
+    FIELD_PREMIUM,
     FIELDS
 };
 
@@ -35,7 +36,7 @@ enum { STATES = 8, MOST_WORDS = 32 };
 struct kind_words {
     const char *word;
     uint8_t kind;
-    unsigned takes; /* a bit for each field */
+    unsigned takes; /* a bit for each field; the premium may be left out, and is 0 then */
     enum party party;
     unsigned states; /* a bit for each state that it takes a lot from; 0 where it asks for no state */
     const char *what;

@@ -34,11 +34,11 @@ enum status zone_new(const char *path)
     return create(path, image, &start);
 }
 
-enum status zone_import(const char *path, const char *image_path)
+enum status zone_import(const char *path, const char *image_path, int *older)
 {
     uint8_t image[CRZ_IMAGE_LENGTH];
     struct line start;
-    if (file_read_image(image_path, image) != 0)
+    if (file_read_image(image_path, image, older) != 0)
         return STATUS_NOTHING_DONE;
     if (!image_valid(image)) {
         report(image_path, "is no valid image of a zone; no zone was made");

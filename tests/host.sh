@@ -8,19 +8,21 @@
 ends 2 "crz new FILE"
 ends 0 "crz new FILE" --help
 ends 0 "crz new FILE" help
-ends 0 "crz 1.1.0, zone format 2, SQLite 3" --version
+ends 0 "crz 2.0.0, zone format 3, SQLite 3" --version
 for command in new call play show log verify statement due import export; do
     ends 0 "crz $command FILE" help "$command"
     ends 0 "crz $command FILE" "$command" --help
-    ends 0 "crz 1.1.0, zone format 2" "$command" --version
+    ends 0 "crz 2.0.0, zone format 3" "$command" --version
     ends 2 "$command takes FILE" "$command"
 done
 ends 0 "crz new FILE" help --help
 ends 0 "crz new FILE" help help
-ends 0 "crz 1.1.0" help --version
-ends 0 "kilograms   1,000 to 60,000" help call
+ends 0 "crz 2.0.0" help --version
+ends 0 "kilograms     1,000 to 60,000" help call
+ends 0 "register account N receipt N kilograms N [premium-yuan N]" help register
+ends 0 "premium-yuan  -5,000 to 5,000; 0 where it is left out" help register
 ends 0 "limit-bid account N receipt N yuan N" help limit-bid
-ends 0 "yuan        5 to 200,000 in steps of 5" help limit-bid
+ends 0 "yuan          5 to 200,000 in steps of 5" help limit-bid
 ends 2 "'limt-bid' is no command and no kind of call; did you mean 'limit-bid'?" help limt-bid
 ends 0 "limit-bid account N receipt N yuan N" help call
 ends 0 "any account but the seller" help call
@@ -68,6 +70,20 @@ ends 2 "grouped in another way" call zone pay-in account 3 fen 1234,567
 ends 2 "grouped in another way" call zone pay-in account 3 fen ,123
 ends 2 "grouped in another way" call zone pay-in account 3 fen 0,005
 ends 2 "grouped in another way" call zone pay-in account 3 fen 000,123
+ends 2 "register: 'premium' is no field; did you mean 'premium-yuan'?" \
+    call zone register account 3 receipt 1 kilograms 41237 premium 5
+ends 2 "list: 'basis' is no field; did you mean 'basis-yuan'?" \
+    call zone list account 3 receipt 1 contract 1 days 0 basis 5
+ends 2 "register: 'kilograms' is missing" call zone register account 3 receipt 1 premium-yuan 5
+ends 2 "register: 'premium-yuan' has no value" call zone register account 3 receipt 1 kilograms 41237 premium-yuan
+ends 2 "register: 'premium-yuan' is there twice" \
+    call zone register account 3 receipt 1 kilograms 41237 premium-yuan 5 premium-yuan 5
+ends 2 "register: 'basis-yuan' is not one of its fields" call zone register account 3 receipt 1 kilograms 41237 basis-yuan 5
+ends 2 "list: 'premium-yuan' is not one of its fields" \
+    call zone list account 3 receipt 1 contract 1 days 0 basis-yuan 0 premium-yuan 5
+ends 2 "premium-yuan: 2,147,483,648 does not fit; it takes -5,000 to 5,000" \
+    call zone register account 3 receipt 1 kilograms 41237 premium-yuan 2147483648
+ends 2 "premium-yuan: '+5' is not a whole number" call zone register account 3 receipt 1 kilograms 41237 premium-yuan +5
 ends 2 "account: 256 does not fit; it takes 1 to 96" call zone pay-in account 256 fen 1
 ends 2 "does not fit" call zone pay-in account 3 fen -1
 ends 2 "is too large" call zone pay-in account 3 fen 99999999999999999999
@@ -100,7 +116,9 @@ ends 1 "account 3 is the seller of lot 1" call zone limit-bid account 3 receipt 
 ends 1 "account 4 is not the seller of lot 1, who is 3" call zone withdraw-listing account 4 receipt 1
 ends 1 "refused 9" call zone market-bid account 4 receipt 1
 ends 1 "contract 1 has no ask today" call zone market-bid account 4 receipt 1
-ends 1 "price 14,995 and basis -14,999 make -4 yuan per tonne" call zone limit-bid account 4 receipt 1 yuan 14995
+ends 1 "refused 10" call zone limit-bid account 4 receipt 1 yuan 14995
+ends 1 "price, basis and premium leave nothing to pay: price 14,995, basis -14,999 and premium 0 make -4 yuan per tonne" \
+    call zone limit-bid account 4 receipt 1 yuan 14995
 ends 1 "account 4 has 0 fen free, limit-bid needs 5,000,000 fen" call zone limit-bid account 4 receipt 1 yuan 15000
 ends 1 "account 3 has 1,234,567 fen free, take-out needs 1,234,568 fen" call zone take-out account 3 fen 1234568
 ends 0 "accepted" call zone pay-in account 4 fen 5000000
@@ -124,6 +142,62 @@ for _ in $(seq 1000); do echo "pay-in account 9 fen 1,000,000,000,000"; done >ri
 ends 1 "with 1,000,000,000,000 fen more it would pass 1,000,000,000,000,000" \
     play rich.zone <(cat rich; echo pay-in account 9 fen 1,000,000,000,000)
 ends 0 "replay: 1,001 calls compared, 1,000 accepted and 1 refused" verify rich.zone
+
+# ── Premiums ────────────────────────────────────────────────────────────────────────────────────────
+"$crz" new premium >/dev/null
+ends 1 "refused 4, sequence 1: a field is out of range: premium-yuan 5,001 is not in -5,000 to 5,000" \
+    call premium register account 1 receipt 1 kilograms 1000 premium-yuan 5001
+ends 1 "a field is out of range: kilograms 999 is not in 1,000 to 60,000; premium-yuan -5,001 is not in -5,000 to 5,000" \
+    call premium register account 1 receipt 1 kilograms 999 premium-yuan -5,001
+holds "a refused register leaves no receipt" test -z "$("$crz" show premium | grep lot)"
+cat >script <<'END'
+pay-in account 4 fen 5,001,000
+pay-in account 5 fen 5,001,000
+register account 1 receipt 1 kilograms 1000 premium-yuan -5
+register account 1 receipt 2 kilograms 41,237
+register account 1 receipt 3 kilograms 1,000 premium-yuan 5,000
+register premium-yuan -5,000 kilograms 1,000 receipt 128 account 1
+list account 1 receipt 1 contract 1 days 0 basis-yuan 0
+list account 1 receipt 3 contract 1 days 0 basis-yuan -5,004
+END
+ends 0 "8 calls: 8 accepted, 0 refused" play premium script
+ends 0 "lot 1: listed, owner 1, 1,000 kilograms, premium -5 yuan per tonne, seller 1" show premium
+ends 0 "lot 2: idle, owner 1, 41,237 kilograms, premium 0 yuan per tonne" show premium
+ends 0 "lot 3: listed, owner 1, 1,000 kilograms, premium 5,000 yuan per tonne, seller 1" show premium
+ends 0 "lot 128: idle, owner 1, 1,000 kilograms, premium -5,000 yuan per tonne" show premium
+ends 0 "  register account 1 receipt 1 kilograms 1,000 premium-yuan -5" log premium
+ends 0 "  register account 1 receipt 2 kilograms 41,237 premium-yuan 0" log premium
+ends 1 "refused 10" call premium limit-bid account 4 receipt 1 yuan 5
+ends 1 "price 5, basis 0 and premium -5 make 0 yuan per tonne, at least 1 is needed" \
+    call premium limit-bid account 4 receipt 1 yuan 5
+ends 0 "bid stands" call premium limit-bid account 4 receipt 3 yuan 5
+ends 0 "full payment 100 fen, rest 20 fen, held from the buyer 5,000,000 fen" show premium
+ends 0 "listing ended" call premium withdraw-listing account 1 receipt 3
+ends 0 "lot 3: idle, owner 1, 1,000 kilograms, premium 5,000 yuan per tonne" show premium
+ends 0 "accepted" call premium quote contract 1 yuan 5
+ends 1 "ask 5, basis 0 and premium -5 make 0 yuan per tonne, at least 1 is needed" \
+    call premium market-bid account 4 receipt 1
+ends 0 "struck, buyer 4, seller 1, 10 yuan per tonne" call premium limit-bid account 4 receipt 1 yuan 10
+ends 0 "lot 1, due day 1: struck, full payment 500 fen, seller 1 must lodge" due premium
+printf 'lodge account 1 receipt 1\nmorning-close\n' >script
+ends 0 "lot 1: settled, buyer 4, seller 1, 500 fen" play premium script
+ends 0 "lot 1: settled, owner 4, 1,000 kilograms, premium -5 yuan per tonne, seller 1, buyer 4" show premium
+ends 0 "held for lot 1, settled: 500 fen" statement premium 4
+cat >script <<'END'
+first-payment account 1 receipt 1
+invoice account 1 receipt 1 fen 250
+confirm account 4 receipt 1
+invoice account 1 receipt 1 fen 250
+confirm account 4 receipt 1
+list account 4 receipt 1 contract 2 days 1 basis-yuan 6
+limit-bid account 5 receipt 1 yuan 5
+END
+ends 0 "7 calls: 7 accepted, 0 refused" play premium script
+ends 0 "lot 1: bid stands, owner 4, 1,000 kilograms, premium -5 yuan per tonne, seller 4, buyer 5" show premium
+ends 0 "full payment 600 fen" show premium
+ends 0 "pay-ins 5,001,000 + received 0 - take-outs 0 - passed on 500 fen" statement premium 4
+ends 0 "+400" statement premium 1
+ends 0 "history: the books" verify premium
 
 # ── Scripts ─────────────────────────────────────────────────────────────────────────────────────────
 "$crz" new script.zone >/dev/null
@@ -169,7 +243,8 @@ holds "what --expect holds back is not made" test "$(total expect.zone)" -eq 9
 "$crz" new day >/dev/null && "$crz" play day "$here/host/day.txt" >said
 holds "the day is accepted" test $? -eq 0
 for line in "settled, buyer 11, seller 1, 63,092,610 fen" "buyer default, buyer 13" "seller default, seller 3" \
-    "struck, buyer 13, seller 2" "penalty, seller 3, buyer 14, 5,000,000 fen" "> pay-in account 11 fen 100,000,000"; do
+    "struck, buyer 13, seller 2" "> register account 2 receipt 2 kilograms 42,000 premium-yuan -80" \
+    "penalty, seller 3, buyer 14, 5,000,000 fen" "> pay-in account 11 fen 100,000,000"; do
     holds "the day has: $line" grep -qF "$line" said
 done
 holds "no lot is struck for the mill that withdrew" test "$(grep -c 'struck, buyer 12' said)" -eq 0
@@ -204,7 +279,7 @@ sed '/^morning-close/,$d' "$here/host/day.txt" >script
 "$crz" new noon >/dev/null && "$crz" play noon script >/dev/null
 ends 0 "the next morning close, of day 1 (today), works 3 lots" due noon
 ends 0 "lot 1, due day 1: lodged, full payment 63,092,610 fen, seller 1 has lodged" due noon
-ends 0 "buyer 13 has 1,000,000 fen free and the deposit of 5,000,000 fen, lacks 56,118,000 fen" due noon
+ends 0 "buyer 13 has 1,000,000 fen free and the deposit of 5,000,000 fen, lacks 55,782,000 fen" due noon
 ends 0 "lot 3, due day 1: struck, full payment 60,560,000 fen, seller 3 must lodge" due noon
 ends 0 "held for lot 1, lodged: 5,000,000 fen" statement noon 11
 ends 0 "held from the buyer 5,000,000 fen" show noon
@@ -214,15 +289,15 @@ ends 0 "(tomorrow: today's is made), works 1 lot" due noon
 
 # ── A desk with books of its own ────────────────────────────────────────────────────────────────────
 # One of the two runs ends in a morning, the other in an afternoon, both with lots that are due.
-for seed in 10 7; do
+for seed in 131 91; do
     "$crz" new "desk.$seed" >/dev/null
-    python3 "$here/tests/host_desk.py" "$crz" "desk.$seed" "$seed" 900 >said
+    python3 "$here/tests/host_desk.py" "$crz" "desk.$seed" "$seed" 1500 >said
     status=$?
     cat said
     holds "a desk with books of its own ends with $status" test "$status" -eq 0
     last=$(tail -n 1 said)
     passed=$((passed + ${last%% *}))
-    ends 0 "replay: 900 calls compared" verify "desk.$seed"
+    ends 0 "replay: 1,500 calls compared" verify "desk.$seed"
 done
 
 # ── Objects for programs ────────────────────────────────────────────────────────────────────────────
@@ -252,12 +327,14 @@ objects() {
 }
 objects 'assert len(kinds["call"]) == 34 and kinds["start"][0]["through"] == "crz_fresh"' log day
 objects 'assert kinds["call"][0]["call"] == {"kind": "pay-in", "account": 11, "fen": 100000000}' log day
+objects 'assert [c["call"]["premium_yuan"] for c in kinds["call"] if c["call"]["kind"] == "register"] == [100, -80, 0, 0]' log day
 objects 'assert [e["fen"] for c in kinds["call"] for e in c["entries"] if e["outcome"] == "settled"] == [63092610]' log day
 objects 'assert [e["yuan"] for c in kinds["call"] for e in c["entries"] if e["outcome"] == "struck"] == [15000, 14990, 14990]' log day
 objects 'assert len(kinds["head"][0]["hash"]) == 64 and kinds["head"][0]["sequence"] == 34' log day --head
 objects 'assert kinds["zone"][0] == {"type": "zone", "day": 2, "phase": "afternoon", "total_fen": 166000000}' show day
 objects 'assert sum(a["free_fen"] + a["frozen_fen"] for a in kinds["account"]) == 166000000' show day
 objects 'assert kinds["lot"][0]["owner"] == 11 and kinds["lot"][0]["full_fen"] is None' show day
+objects 'assert [lot["premium_yuan"] for lot in kinds["lot"]] == [100, -80, 0, 0]' show day
 objects 'assert len(kinds["contract"]) == 8 and len(kinds["lot"]) == 4' show day
 objects 'b = kinds["balance"][0]; assert b["pay_ins_fen"] - b["passed_fen"] == b["free_fen"] == 36907390' statement day 11
 objects 'assert [m["out_fen"] for m in kinds["movement"]] == [None, 50474088, 6000000, 6618522]' statement day 11
@@ -284,12 +361,50 @@ ends 0 "need a start from a fresh zone, this one was imported" verify moved
 ends 0 "replay: 1 call compared" verify moved
 ends 3 "exists already" import moved day.image
 head -c "$((image_length - 1))" day.image >short
-ends 3 "is no raw image: an image has" import short.zone short
+ends 3 "is no raw image: an image has $(thousands "$image_length") bytes, one of an older program $(thousands "$older_length")" \
+    import short.zone short
 { cat day.image; printf '\0'; } >long
 ends 3 "is no raw image" import long.zone long
 { printf '\377'; tail -c +2 day.image; } >damaged
 ends 3 "is no valid image of a zone; no zone was made" import damaged.zone damaged
 holds "a bad image makes no zone" test ! -e short.zone -a ! -e long.zone -a ! -e damaged.zone
+
+# An image from before there were premiums: its records are shorter, and each receipt gets premium 0.
+cat >before.py <<'END'
+import sys
+start, longer, shorter = map(int, sys.argv[3:])
+image = open(sys.argv[1], "rb").read()
+records = [image[at:at + longer] for at in range(start, len(image), longer)]
+open(sys.argv[2], "wb").write(image[:start] + b"".join(record[:shorter] for record in records))
+END
+# before IMAGE OLDER: the image as a program without premiums would write it
+before() {
+    python3 before.py "$1" "$2" "$(named CRZ_IMAGE_RECEIPTS)" "$(named CRZ_RECEIPT_LENGTH)" "$(named CRZ_RECEIPT_PREMIUM)"
+}
+# a day without premiums, up to a lot that is first paid, one with a penalty due and one with a standing bid
+sed 's/ premium-yuan -*[0-9]*//; /^invoice .* fen 33092610/,$d' "$here/host/day.txt" >script
+echo "limit-bid account 14 receipt 4 yuan 14985" >>script
+"$crz" new plain >/dev/null && "$crz" play plain script >/dev/null && "$crz" export plain plain.image >/dev/null
+before plain.image older.image
+holds "the length of an older image" test "$(stat -c %s older.image)" -eq "$older_length"
+ends 3 "if it is a raw image, 'crz import ZONE older.image'" show older.image
+ends 0 "older.zone: a zone with that older image, every premium 0, sequence 0" import older.zone older.image
+for state in "first paid" "penalty due" "bid stands"; do
+    ends 0 ": $state, owner" show older.zone
+done
+holds "an older image is the same zone" cmp -s <("$crz" show plain) <("$crz" show older.zone)
+ends 0 "older.again: the image after sequence 0" export older.zone older.again
+holds "its image has premiums now" cmp -s plain.image older.again
+ends 0 "accepted, sequence 1" call older.zone pay-in account 11 fen 10
+ends 0 "replay: 1 call compared" verify older.zone
+for seed in 131 91; do # without their premiums the frozen money does not fit
+    "$crz" export "desk.$seed" "desk.$seed.image" >/dev/null
+    before "desk.$seed.image" "desk.$seed.older"
+    ends 3 "is no valid image of a zone; no zone was made" import "desk.$seed.zone" "desk.$seed.older"
+done
+head -c "$((older_length - 1))" older.image >short
+ends 3 "is no raw image" import short.zone short
+holds "a bad older image makes no zone" test ! -e short.zone -a ! -e desk.131.zone -a ! -e desk.91.zone
 
 # The last day of a zone, by an image of that day.
 python3 -c 'b = bytearray(open("day.image", "rb").read()); b[6:8] = (30000).to_bytes(2, "little"); open("last.image", "wb").write(b)'

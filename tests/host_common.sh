@@ -2,7 +2,17 @@
 # What the tests of the host program share: the program in a folder of their own, and what they ask of it.
 # shellcheck source=tests/counted.sh
 . "$(dirname "$0")/counted.sh"
-image_length=$(sed -n 's/^#define CRZ_IMAGE_LENGTH //p' "$here/include/crz.h")
+# named NAME: the number that crz.h has under that name
+named() {
+    sed -n "s/^#define $1 \([0-9]*\).*/\1/p; s/^ *$1 = \([0-9]*\).*/\1/p" "$here/include/crz.h"
+}
+# thousands NUMBER: as the program writes it
+thousands() {
+    sed ':a;s/\B[0-9]\{3\}\>/,&/;ta' <<<"$1"
+}
+image_length=$(named CRZ_IMAGE_LENGTH)
+# before receipts had premiums, a record ended where the premium stands now
+older_length=$(($(named CRZ_IMAGE_RECEIPTS) + $(named CRZ_RECEIPT_COUNT) * $(named CRZ_RECEIPT_PREMIUM)))
 chmod 755 "$work"
 cp "$1" "$work/crz" # other users may not reach the place where it was built
 crz=$work/crz

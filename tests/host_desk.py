@@ -13,7 +13,7 @@ STATES = ["idle", "listed", "bid stands", "struck", "lodged", "settled", "first 
 DEPOSIT = PENALTY = 5000000
 PARTIES = ["account", "receipt"]
 FIELDS = {
-    "pay-in": ["account", "fen"], "take-out": ["account", "fen"], "register": PARTIES + ["kilograms"],
+    "pay-in": ["account", "fen"], "take-out": ["account", "fen"], "register": PARTIES + ["kilograms", "premium_yuan"],
     "list": PARTIES + ["contract", "days", "basis_yuan"], "withdraw-listing": PARTIES,
     "limit-bid": PARTIES + ["yuan"], "market-bid": PARTIES, "withdraw-bid": PARTIES, "quote": ["contract", "yuan"],
     "lodge": PARTIES, "morning-close": [], "first-payment": PARTIES, "invoice": PARTIES + ["fen"],
@@ -21,13 +21,16 @@ FIELDS = {
 }
 OFTEN = [10, 4, 8, 30, 1, 30, 6, 2, 6, 25, 3, 15, 25, 25, 3]
 RANGES = {"account": (1, 96), "receipt": (1, 128), "contract": (1, 8), "days": (0, 3), "fen": (1, 10 ** 12),
-          "yuan": (5, 200000), "basis_yuan": (-50000, 50000), "kilograms": (1000, 60000)}
+          "yuan": (5, 200000), "basis_yuan": (-50000, 50000), "kilograms": (1000, 60000),
+          "premium_yuan": (-5000, 5000)}
 NEEDS = {"list": [IDLE], "withdraw-listing": [LISTED, BID_STANDS], "limit-bid": [LISTED, BID_STANDS],
          "market-bid": [LISTED, BID_STANDS], "withdraw-bid": [BID_STANDS], "lodge": [STRUCK],
          "first-payment": [SETTLED], "invoice": [FIRST_PAID], "confirm": [FIRST_PAID]}
 PARTY = {"list": "owner", "withdraw-listing": "seller", "withdraw-bid": "buyer", "lodge": "seller",
          "first-payment": "seller", "invoice": "seller", "confirm": "buyer"}
 BIDS = ["limit-bid", "market-bid"]
+# What a run must come to with a premium above 0 and with one below 0.
+REACH = ["settled", "sold again by its buyer", "paid in full", "penalty", "number 10 turned by it"]
 
 
 def grouped(number):
@@ -37,8 +40,9 @@ def grouped(number):
 class Lot:
     """A receipt and its sale; None where a field is not filled."""
 
-    def __init__(self, owner, kilograms):
-        self.owner, self.kilograms = owner, kilograms
+    def __init__(self, owner, kilograms, premium):
+        self.owner, self.kilograms, self.premium = owner, kilograms, premium
+        self.registrant = owner
         self.end()
 
     def end(self):
@@ -47,7 +51,7 @@ class Lot:
         self.pending = self.confirmed = self.paid = None
 
     def full(self):
-        return ((self.price + self.basis) * self.kilograms + 5) // 10
+        return ((self.price + self.basis + self.premium) * self.kilograms + 5) // 10
 
     def rest(self):
         return self.full() - self.full() * 80 // 100
@@ -67,12 +71,17 @@ class Books:
         self.free, self.asks, self.lots = [0] * 97, [0] * 9, {}
         self.day, self.afternoon = 1, False
         self.movements = {}  # of an account: (what, lot, other account, in, out)
+        self.reached = set()  # (what, whether the premium is above 0)
 
     def frozen(self, account):
         return sum(lot.held() for lot in self.lots.values() if lot.buyer == account)
 
     def total(self):
         return sum(self.free) + sum(lot.held() for lot in self.lots.values())
+
+    def reach(self, what, lot):
+        if lot.premium != 0:
+            self.reached.add((what, lot.premium > 0))
 
     # ── Refusals: each test gives the words, or None ──
 
@@ -127,8 +136,13 @@ class Books:
         if kind not in BIDS:
             return None
         word, price = ("price", f["yuan"]) if kind == "limit-bid" else ("ask", self.asks[lot.contract])
-        return None if price + lot.basis >= 1 else "%s %s and basis %s make %s yuan per tonne, at least 1 is needed" % (
-            word, grouped(price), grouped(lot.basis), grouped(price + lot.basis))
+        yuan = price + lot.basis + lot.premium
+        if (yuan >= 1) != (price + lot.basis >= 1):
+            self.reach("number 10 turned by it", lot)
+        if yuan >= 1:
+            return None
+        return "%s %s, basis %s and premium %s make %s yuan per tonne, at least 1 is needed" % (
+            word, grouped(price), grouped(lot.basis), grouped(lot.premium), grouped(yuan))
 
     def no_money(self, kind, f, lot):
         if kind not in BIDS + ["take-out"]:
@@ -179,7 +193,7 @@ class Books:
         return []
 
     def register(self, f):
-        self.lots[f["receipt"]] = Lot(f["account"], f["kilograms"])
+        self.lots[f["receipt"]] = Lot(f["account"], f["kilograms"], f["premium_yuan"])
         return [(f["receipt"], "registered", f["account"], 0, 0)]
 
     def list(self, f):
@@ -243,6 +257,7 @@ class Books:
             lot.end()
             return entry
         self.free[lot.buyer] -= lot.full() - DEPOSIT
+        self.reach("settled" if lot.owner == lot.registrant else "sold again by its buyer", lot)
         lot.owner, lot.state = lot.buyer, SETTLED
         return (number, "settled", lot.buyer, lot.seller, lot.full())
 
@@ -260,6 +275,7 @@ class Books:
             fen = min(self.free[lot.seller], PENALTY)
             self.free[lot.seller] -= fen
             entry = self.transfer("penalty", number, lot.seller, lot.buyer, fen)
+            self.reach("penalty", lot)
             lot.end()
             return entry
         rich = self.free[lot.buyer] + DEPOSIT >= lot.full()
@@ -293,6 +309,7 @@ class Books:
         lot.paid += fen
         entry = self.transfer("part paid", f["receipt"], lot.buyer, lot.seller, fen)
         if last:
+            self.reach("paid in full", lot)
             lot.end()
         return [entry]
 
@@ -341,6 +358,7 @@ def some_call(chance, books):
         "yuan": chance.choice([0, 3, 5, 14990, 14995, 15000, 15005, 15010, 200000, 200005]),
         "basis_yuan": chance.choice([-50000, -14999, -4, 0, 0, 300, 300, 50000, 50001]),
         "kilograms": chance.choice([999, 1000, 1001, 41237, 41237, 60000, 60001]),
+        "premium_yuan": chance.choice([-5001, -5000, -120, -4, -1, 0, 0, 1, 4, 120, 5000, 5000, 5001]),
     }
     return kind, {name: fields[name] for name in FIELDS[kind]}
 
@@ -365,7 +383,9 @@ def objects(program, *words, script=None):
 
 def in_words(chance, kind, f):
     digits = chance.choice(["{}", "{:,}"])
-    return kind + "".join(" %s %s" % (name.replace("_", "-"), digits.format(f[name])) for name in f) + "\n"
+    left_out = [name for name in f if name == "premium_yuan" and f[name] == 0 and chance.random() < 0.5]
+    named = [name for name in f if name not in left_out]
+    return kind + "".join(" %s %s" % (name.replace("_", "-"), digits.format(f[name])) for name in named) + "\n"
 
 
 def entry_fields(entry):
@@ -394,7 +414,7 @@ def lot_object(number, lot):
     traded, invoiced = lot.price is not None, lot.state == FIRST_PAID
     return {
         "type": "lot", "lot": number, "state": STATES[lot.state], "owner": lot.owner, "kilograms": lot.kilograms,
-        "seller": lot.seller, "buyer": lot.buyer, "contract": lot.contract, "days": lot.days, "basis_yuan": lot.basis,
+        "premium_yuan": lot.premium, "seller": lot.seller, "buyer": lot.buyer, "contract": lot.contract, "days": lot.days, "basis_yuan": lot.basis,
         "price_yuan": lot.price, "due": lot.due, "full_fen": lot.full() if traded else None,
         "rest_fen": lot.rest() if traded else None, "held_fen": lot.held(), "paid_of_rest_fen": lot.paid,
         "confirmed_fen": lot.confirmed, "pending_fen": lot.pending,
@@ -462,6 +482,8 @@ def main():
     compare_due(check, program, zone, books)
     for account in range(1, 97):
         compare_statement(check, program, zone, books, account)
+    wanted = {(what, above) for what in REACH for above in (False, True)}
+    check.same("what premiums of both signs came to", wanted - books.reached, set())
     print("seed %s: day %d, %s, %d lots due" % (seed, books.day, "afternoon" if books.afternoon else "morning",
                                                len(books.due_lots(books.day + books.afternoon))))
     print("%d passed, %d failed" % (check.passed, check.failed))

@@ -72,10 +72,21 @@ for file in empty text zeros other; do
 done
 ends 3 "is a folder, not a zone" call folder day-close
 ends 3 "is no regular file" show pipe
-cp a older && change older "pragma user_version = 1"
-ends 3 "is a zone of format 1; this program knows format 2" call older day-close
-cp a newer && change newer "pragma user_version = 3"
-ends 3 "is a zone of format 3; this program knows format 2" call newer day-close
+for format in 1 2; do
+    cp a older && change older "pragma user_version = $format" \
+        "update zone set image = cast(substr(image, 1, $older_length) as blob)"
+    before=$(sha256sum older)
+    for command in show log verify due; do
+        ends 3 "older: is a zone of the older format $format; this program knows format 3 and leaves the file as it was" \
+            "$command" older
+    done
+    ends 3 "the program that made it writes its image with 'crz export older IMAGE', and 'crz import ZONE IMAGE' here" \
+        call older day-close
+    ends 3 "the call was not made" call older day-close
+    holds "a zone of format $format stays" test "$before" = "$(sha256sum older)"
+done
+cp a newer && change newer "pragma user_version = 4"
+ends 3 "is a zone of the newer format 4; this program knows format 3 and leaves the file as it was" call newer day-close
 cp a tables && change tables "create table more (x)"
 ends 3 "its tables are not those of a zone" call tables day-close
 cp a cut && truncate -s -4096 cut
@@ -219,7 +230,7 @@ for name in INT TERM HUP; do
     wait "$player" 2>/dev/null
     holds "a script that gets $name ends with $?" test $? -eq $((128 + $(kill -l "$name")))
     told=$(grep -c '^accepted' said)
-    holds "$name: $(tail -n 1 said)" grep -qF "of the script's 20,000 calls $(sed ':a;s/\B[0-9]\{3\}\>/,&/;ta' <<<"$told") were made" said
+    holds "$name: $(tail -n 1 said)" grep -qF "of the script's 20,000 calls $(thousands "$told") were made" said
     holds "$name: what was told is there" test "$(total "signal.$name")" -eq "$told"
     holds "$name: one file is left" test "$(echo signal."$name"*)" = "signal.$name"
 done
