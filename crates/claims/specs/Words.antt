@@ -30,8 +30,12 @@ simpleCall kind account receipt amount = call kind account receipt 0 0 amount (p
 abbrev pub payIn : ℕ → ℕ → Call
 payIn account amount = simpleCall 1 account 0 amount
 
+-- with a premium (02 2/12), and with none
+abbrev pub registersGraded : ℕ → ℕ → ℕ → ℤ → Call
+registersGraded account receipt weight premium = call 3 account receipt 0 0 0 premium weight
+
 abbrev pub registers : ℕ → ℕ → ℕ → Call
-registers account receipt weight = call 3 account receipt 0 0 0 (pos 0) weight
+registers account receipt weight = registersGraded account receipt weight (pos 0)
 
 abbrev pub lists : ℕ → ℕ → ℕ → ℕ → ℤ → Call
 lists account receipt contract days basis = call 4 account receipt contract days 0 basis 0

@@ -5,12 +5,10 @@ use mathlib.Core.List.{List, [], _∷_}
 use mathlib.Core.Path.{_≡_, refl, sym, _∙_, subst}
 use Prim.Native.Nat.{ℕ, _≤_, _<_}
 use Rattle.units.specs.Ranges.{receiptCount}
-use Rattle.zone.specs.declared.Lot.{Lot}
-use Rattle.zone.specs.declared.Lot.the-variants.{Idle, Listed, BidStands, Struck, Lodged, Settled, FirstPaid, PenaltyDue}
 use Rattle.zone.specs.declared.Receipt.{Receipt}
 use Rattle.zone.specs.declared.Zone.{Zone}
+use Rattle.zone.specs.Laws.Back.{own-fields}
 use Rattle.zone.specs.Laws.Valid.{fresh-valid}
-use Rattle.zone.specs.Record.{recordOf, recordAs}
 use Rattle.zone.specs.Valid.{Sized, validZone, freshZone}
 use Rattle.rules.specs.declared.Call.{Call}
 use Rattle.rules.specs.declared.Entry.{Entry}
@@ -107,21 +105,6 @@ unfolding history EachStrikeOwnAct freshZone
 after-fresh =
     record { sized = record { accounts = refl; receipts = refl; asks = refl }; valid = fresh-valid; inStep = fresh-in-step; fair = tt }
 
--- the owner of a receipt stands in its record
-owner-of : (r : Receipt) → recordOf r .owner ≡ r .owner
-unfolding recordOf
-owner-of r = go (r .lot)
-  where
-    go : (lot : Lot) → recordAs (r .owner) (r .weight) lot .owner ≡ r .owner
-    go Idle = refl
-    go (Listed l) = refl
-    go (BidStands l b) = refl
-    go (Struck t) = refl
-    go (Lodged t) = refl
-    go (Settled t) = refl
-    go (FirstPaid t i) = refl
-    go (PenaltyDue s b d) = refl
-
 -- what holds after the list is what the claim says
 pub holds : (list : List (Call × Reply)) (z : Zone) → After list z → Holds list z
 holds list z A =
@@ -130,6 +113,6 @@ holds list z A =
       books = λ x a b. A .inStep .money x a;
       frozen = λ x a b. G .frozen x a b ∙ sym (sum-kept z (history list) (A .sized) (A .inStep) x);
       exact = λ k a b. exact (A .inStep .linked k a b);
-      owners = λ k a b. sym (owner-of (receiptOfNumber (z .receipts) k)) ∙ A .inStep .linked k a b .rest .owner;
+      owners = λ k a b. sym (own-fields (receiptOfNumber (z .receipts) k) .owner) ∙ A .inStep .linked k a b .rest .owner;
       strikes = A .fair;
     }

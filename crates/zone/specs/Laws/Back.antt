@@ -34,6 +34,27 @@ receipt-back r = go (r .owner) (r .weight) (r .premium) (r .lot)
     go o w p (FirstPaid t i) = refl
     go o w p (PenaltyDue s b d) = refl
 
+-- owner and premium of a receipt stand in its record, whatever its lot
+pub record OwnFields (r : Receipt) : Type 0 where
+  pub owner : recordOf r .owner ≡ r .owner
+  pub premium : recordOf r .premium ≡ r .premium
+
+pub own-fields : (r : Receipt) → OwnFields r
+unfolding recordOf
+own-fields r =
+    let t = go (r .owner) (r .weight) (r .premium) (r .lot) in
+    record { owner = t .0; premium = t .1 }
+  where
+    go : (o : ℕ) (w : Kilograms) (p : Premium) (lot : Lot) → (recordAs o w p lot .owner ≡ o) × (recordAs o w p lot .premium ≡ p)
+    go o w p Idle = (refl, refl)
+    go o w p (Listed l) = (refl, refl)
+    go o w p (BidStands l b) = (refl, refl)
+    go o w p (Struck t) = (refl, refl)
+    go o w p (Lodged t) = (refl, refl)
+    go o w p (Settled t) = (refl, refl)
+    go o w p (FirstPaid t i) = (refl, refl)
+    go o w p (PenaltyDue s b d) = (refl, refl)
+
 -- the fields of a listing and of a bid that a state does not fill
 unlisted : (n : ℕ) (l : Listing) (s : ℕ) → within 1 6 n ≡ false → l .seller ≡ s → ListingAt n l → noListing s ≡ l
 unlisted n l s f e L =
