@@ -45,12 +45,8 @@ static void expect_bytes(const char *hex, const char *what)
     expect(strcmp(got, hex) == 0, what);
 }
 
-static void records(void)
+static void registrations(void)
 {
-    crz_put_pay_in(call, 1, UINT64_C(0x8807060504030201));
-    expect_bytes("010100000000000001020304050607880000000000000000", "pay in");
-    crz_put_take_out(call, 96, 2);
-    expect_bytes("026000000000000002000000000000000000000000000000", "take out");
     crz_put_register(call, 3, 128, 60000, 0);
     expect_bytes("0303800000000000"
                  "0000000000000000"
@@ -66,6 +62,14 @@ static void records(void)
                  "0000000000000000"
                  "78ecffff60ea0000",
         "register with a premium below 0");
+}
+
+static void records(void)
+{
+    crz_put_pay_in(call, 1, UINT64_C(0x8807060504030201));
+    expect_bytes("010100000000000001020304050607880000000000000000", "pay in");
+    crz_put_take_out(call, 96, 2);
+    expect_bytes("026000000000000002000000000000000000000000000000", "take out");
     crz_put_list(call, 3, 4, 8, 3, -50000);
     expect_bytes("0403040803000000"
                  "0000000000000000"
@@ -273,8 +277,6 @@ static void life(void)
     expect(make() == CRZ_NUMBER_ACCEPTED && held_is_frozen(9, 2), "first paid");
 }
 
-/* ── Premiums ──────────────────────────────────────────────────────────────────────────────────── */
-
 static int premium_is(int32_t premium)
 {
     return crz_get_receipt(image, 9).premium == premium;
@@ -383,7 +385,8 @@ static void images(void)
     offer(0, -300);
     crz_put_limit_bid(call, 2, 9, 4000);
     make();
-    expect(valid_with(-3699) && !valid_with(-3700), "a premium that leaves something of the bid, and one that does not");
+    expect(
+        valid_with(-3699) && !valid_with(-3700), "a premium that leaves something of the bid, and one that does not");
 }
 
 static void premiums(void)
@@ -411,6 +414,7 @@ int main(void)
     expect(strcmp(version, CRZ_VERSION) == 0, "the version");
     expect(CRZ_IMAGE_RECEIPTS + CRZ_RECEIPT_COUNT * CRZ_RECEIPT_LENGTH == CRZ_IMAGE_LENGTH, "the image's length");
     expect(CRZ_ANSWER_ENTRIES + CRZ_ENTRY_COUNT * CRZ_ENTRY_LENGTH == CRZ_ANSWER_LENGTH, "the answer's length");
+    registrations();
     records();
     fields();
     ranges();
