@@ -68,6 +68,12 @@ static void put_trade(uint8_t *receipt, unsigned state, unsigned buyer)
     }
 }
 
+/* below 0, none and above 0 by turns, so that lots of every state have all three */
+static int32_t premium_of(unsigned number)
+{
+    return 300 * ((int32_t)(number % 3) - 1);
+}
+
 /* contracts change every eight lots */
 static void put_terms(uint8_t *receipt, unsigned number)
 {
@@ -84,6 +90,7 @@ static void put_receipt(uint8_t *image, unsigned number, unsigned state)
     receipt[CRZ_RECEIPT_OWNER] = (uint8_t)(bought ? buyer : seller);
     receipt[CRZ_RECEIPT_STATE] = (uint8_t)state;
     crz_put_u32(receipt + CRZ_RECEIPT_WEIGHT, WEIGHT);
+    crz_put_i32(receipt + CRZ_RECEIPT_PREMIUM, premium_of(number));
     if (state != CRZ_STATE_IDLE)
         receipt[CRZ_RECEIPT_SELLER] = (uint8_t)seller;
     if (state != CRZ_STATE_IDLE && state != CRZ_STATE_PENALTY_DUE)
@@ -101,7 +108,7 @@ static void fill_accounts(uint8_t *image)
         put_money(image, account, 1000000000 + account);
 }
 
-/* 128 lots in all eight states by turns, and money in every account */
+/* 128 lots in all eight states by turns, with premiums of both signs and none, and money in every account */
 static void busy(uint8_t *image)
 {
     unsigned number;

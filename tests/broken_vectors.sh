@@ -7,11 +7,12 @@
 vectors=$(realpath "$1") history=$(realpath "$2") stack=$(realpath "$3")
 cd "$work" || exit 2
 
-# few lines of each kind: three calls of a run, the last of them its first that changes the image, so that nothing before them is missed;
-# an image whose call changes it and one with another length
+# few lines of each kind: three calls of a run, its first that changes the image among them and none before them, so that nothing is
+# missed; an image whose call changes it and one with another length
 mkdir whole broken
 awk '/^Z/ { print } /^C/ { call[++calls] = "" } /^[CRAI]/ { call[calls] = call[calls] $0 "\n" }
-    /^I [0-9]/ { printf "%s%s%s", call[calls - 2], call[calls - 1], call[calls]; exit }' \
+    /^I [0-9]/ && !last { last = calls < 3 ? 3 : calls }
+    /^I/ && calls == last { printf "%s%s%s", call[last - 2], call[last - 1], call[last]; exit }' \
     "$here/tests/vectors/run-1.txt" >whole/run-1.txt
 awk '/^Z/ { block = "" } { block = block $0 "\n" }
     /^I [0-9]/ && !accepted { printf "%s", block; accepted = 1 }

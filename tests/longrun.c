@@ -110,7 +110,7 @@ static int same_on_both(const struct side *before, uint32_t number)
 static struct made compare(const struct request *q)
 {
     static struct side before;
-    struct made made = {q, 0, before.image, library.image, library.answer};
+    struct made made = {q, 0, before.image, library.image, library.answer, NULL};
     uint8_t fill = (uint8_t)random_word();
     uint32_t of_plain;
     int kept;
@@ -162,6 +162,7 @@ static void judge_made_up(const struct making *making)
     memcpy(plain.image, library.image, sizeof plain.image);
     meet_change(&q, saved_library.image, receipt);
     made = compare(&q);
+    made.sound = saved_library.image;
     making->count(&made);
     library = saved_library;
     plain = saved_plain;
@@ -169,12 +170,15 @@ static void judge_made_up(const struct making *making)
 
 /* ── Runs ──────────────────────────────────────────────────────────────────────────────────────── */
 
+/* premiums go from one end of their range to the other in four steps, lot by lot */
 static void make(enum crz_kind kind, uint64_t account, uint64_t receipt, uint64_t amount)
 {
     struct request q;
     ask_for(&q, kind, account, receipt, amount);
-    if (kind == CRZ_KIND_REGISTER)
+    if (kind == CRZ_KIND_REGISTER) {
+        crz_put_i32(q.call + CRZ_CALL_BASIS, CRZ_PREMIUM_LEAST + CRZ_PREMIUM_MOST / 2 * (int32_t)(receipt % 5));
         crz_put_u32(q.call + CRZ_CALL_WEIGHT, 40000 + (uint32_t)receipt);
+    }
     if (kind == CRZ_KIND_LIST || kind == CRZ_KIND_QUOTE)
         q.call[CRZ_CALL_CONTRACT] = 1;
     compare(&q);

@@ -69,11 +69,11 @@ uint64_t fill_to_limit(uint8_t *image);
 
 /* ── Counts (longrun_counts.c) ─────────────────────────────────────────────────────────────────── */
 
-/* a call, what it returned, and images and answer around it */
+/* a call, what it returned, and images and answer around it; of a made-up image, also the one that it was made from */
 struct made {
     const struct request *request;
     uint32_t number;
-    const uint8_t *before, *after, *answer;
+    const uint8_t *before, *after, *answer, *sound;
 };
 
 void count_call(const struct made *made);

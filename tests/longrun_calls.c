@@ -79,22 +79,35 @@ static uint64_t near_price(unsigned contract)
     }
 }
 
-static uint64_t near_basis(unsigned contract)
+/* often an end of the range, one beyond it or none, else any */
+static int32_t some_premium(void)
 {
+    static const int32_t edges[] = {CRZ_PREMIUM_LEAST - 1, CRZ_PREMIUM_LEAST, CRZ_PREMIUM_LEAST, 0, CRZ_PREMIUM_MOST,
+        CRZ_PREMIUM_MOST, CRZ_PREMIUM_MOST + 1};
+    if (percent(60))
+        return edges[below(sizeof edges / sizeof edges[0])];
+    return CRZ_PREMIUM_LEAST + (int32_t)below(CRZ_PREMIUM_MOST - CRZ_PREMIUM_LEAST + 1);
+}
+
+/* the basis of the cheap contract makes up for the premium: often a tonne costs nothing at the least price, or one or
+ * two yuan */
+static uint64_t near_basis(unsigned contract, int32_t premium)
+{
+    uint64_t makes_up = 0 - (uint64_t)premium;
     switch (contract) {
-    case CHEAP_CONTRACT: return percent(40) ? 1 - (uint64_t)CRZ_PRICE_LEAST : below(80) - 50;
+    case CHEAP_CONTRACT: return percent(60) ? makes_up - CRZ_PRICE_LEAST + below(3) : makes_up - 50 + below(80);
     case DEAR_CONTRACT: return percent(60) ? CRZ_BASIS_MOST : CRZ_BASIS_MOST - below(10);
     default: return below(801) - 400;
     }
 }
 
-static uint64_t some_basis(unsigned contract)
+static uint64_t some_basis(unsigned contract, int32_t premium)
 {
     static const int32_t edges[] = {CRZ_BASIS_LEAST - 1, CRZ_BASIS_LEAST, CRZ_BASIS_MOST, CRZ_BASIS_MOST + 1};
     uint64_t draw = below(100);
     if (draw < 2)
         return (uint64_t)edges[below(4)];
-    return draw < 5 ? (uint64_t)CRZ_BASIS_LEAST + below(CRZ_BASIS_MOST) : near_basis(contract);
+    return draw < 5 ? (uint64_t)CRZ_BASIS_LEAST + below(CRZ_BASIS_MOST) : near_basis(contract, premium);
 }
 
 static uint64_t some_weight(void)
@@ -165,6 +178,16 @@ static void meet_limit(struct request *q, const uint8_t *image, const struct crz
 
 /* ── Lots ──────────────────────────────────────────────────────────────────────────────────────── */
 
+/* now and then the receipt that can cost most */
+static void put_premium_and_weight(struct request *q)
+{
+    int32_t premium = some_premium();
+    uint64_t weight = some_weight();
+    int dearest = percent(10);
+    crz_put_i32(q->call + CRZ_CALL_BASIS, dearest ? CRZ_PREMIUM_MOST : premium);
+    crz_put_bytes(q->call + CRZ_CALL_WEIGHT, 4, dearest ? CRZ_WEIGHT_MOST : weight);
+}
+
 static void list_or_register(struct request *q, const struct crz_receipt_fields *receipt, uint64_t number)
 {
     unsigned contract = some_contract();
@@ -173,12 +196,12 @@ static void list_or_register(struct request *q, const struct crz_receipt_fields 
     int registers = percent(4) ? !unregistered : unregistered;
     ask_for(q, registers ? CRZ_KIND_REGISTER : CRZ_KIND_LIST, account, number, 0);
     if (registers) {
-        crz_put_bytes(q->call + CRZ_CALL_WEIGHT, 4, some_weight());
+        put_premium_and_weight(q);
         return;
     }
     q->call[CRZ_CALL_CONTRACT] = (uint8_t)contract;
     q->call[CRZ_CALL_DAYS] = (uint8_t)below(4);
-    crz_put_bytes(q->call + CRZ_CALL_BASIS, 4, some_basis(contract));
+    crz_put_bytes(q->call + CRZ_CALL_BASIS, 4, some_basis(contract, receipt->premium));
 }
 
 /* a bid, often by the standing buyer or near the standing price; or a withdrawal */
@@ -287,11 +310,11 @@ void sensible_call(struct request *q, const uint8_t *image)
 
 uint64_t edge_value(void)
 {
-    static const uint64_t edges[] = {0, 1, 2, 3, 4, 5, 7, 8, 9, 16, 95, 96, 97, 127, 128, 129, 255, 999, 1000, 29999,
-        30000, 30001, 30003, 30004, 50000, 50001, 60000, 60001, 199995, 200000, 200001, 200005, CRZ_DEPOSIT, 0x7fffffff,
-        0x80000000, 0xffffffff, UINT64_C(0x100000005), UINT64_C(999999999999), UINT64_C(1000000000000),
-        UINT64_C(1000000000001), UINT64_C(999999999999999), UINT64_C(1000000000000000), UINT64_C(1000000000000001),
-        UINT64_C(0x7fffffffffffffff), UINT64_C(0x8000000000000000)};
+    static const uint64_t edges[] = {0, 1, 2, 3, 4, 5, 7, 8, 9, 16, 95, 96, 97, 127, 128, 129, 255, 999, 1000, 4999,
+        5000, 5001, 29999, 30000, 30001, 30003, 30004, 50000, 50001, 60000, 60001, 199995, 200000, 200001, 200005,
+        CRZ_DEPOSIT, 0x7fffffff, 0x80000000, 0xffffffff, UINT64_C(0x100000005), UINT64_C(999999999999),
+        UINT64_C(1000000000000), UINT64_C(1000000000001), UINT64_C(999999999999999), UINT64_C(1000000000000000),
+        UINT64_C(1000000000000001), UINT64_C(0x7fffffffffffffff), UINT64_C(0x8000000000000000)};
     uint64_t value = percent(20) ? 0 : edges[below(sizeof edges / sizeof edges[0])];
     return percent(30) ? 0 - value : value;
 }

@@ -1,13 +1,14 @@
 /*
  * What the long run has reached. Everything that can occur must occur: a pair of kind and number that never came, an
- * outcome, a contract that nothing was struck at, strikes of one quote at one price and at several, an amount or a total
- * at its limit.
+ * outcome, a contract that nothing was struck at, strikes of one quote at one price and at several, an amount or a
+ * total at its limit, a premium at the ends of its range, every outcome of lots with a premium of either sign and with
+ * none, a tonne that costs nothing or one yuan.
  */
 #include "longrun.h"
 
 #include <stdio.h>
 
-enum { NUMBERS = 14, OUTCOMES = 16, KINDS = 16, VERDICTS = 2, LIMITS = 3, AMOUNTS = 4, FULLS = 2 };
+enum { NUMBERS = 14, OUTCOMES = 16, KINDS = 16, VERDICTS = 2, LIMITS = 3, AMOUNTS = 4, FULLS = 2, PREMIUMS = 5 };
 
 /*
  * The numbers 0 to 13 that a kind can return ('+'). Numbers 1 and 2 are of buffers and images, 3 is of the record's
@@ -43,15 +44,39 @@ static const uint8_t strikers[STRIKERS] = {CRZ_KIND_LIMIT_BID, CRZ_KIND_MARKET_B
 static const uint8_t payers[PAYERS] = {CRZ_KIND_PAY_IN, CRZ_KIND_TAKE_OUT, CRZ_KIND_INVOICE};
 static const uint64_t amounts[AMOUNTS] = {0, CRZ_AMOUNT_MOST - 1, CRZ_AMOUNT_MOST, CRZ_AMOUNT_MOST + 1};
 
-/* the least and the most that a lot can cost: 1 x 1,000 and 250,000 x 60,000 tenths of a fen */
-static const uint32_t fulls[FULLS] = {100, 1500000000};
+/* the least and the most that a lot can cost: 1 x 1,000 and 255,000 x 60,000 tenths of a fen */
+static const uint32_t fulls[FULLS] = {100, 1530000000};
+
+/* the ends of the range of premiums, one beyond each, and none */
+static const int32_t premiums[PREMIUMS] = {
+    CRZ_PREMIUM_LEAST - 1, CRZ_PREMIUM_LEAST, 0, CRZ_PREMIUM_MOST, CRZ_PREMIUM_MOST + 1};
+
+/* lots by their premium */
+enum premium_class { LEAST, BELOW_ZERO, NONE, ABOVE_ZERO, MOST, CLASSES };
+static const char *const class_names[CLASSES] = {
+    "premium -5,000", "premium below 0", "premium 0", "premium above 0", "premium 5,000"};
 
 static unsigned long returned[KINDS][NUMBERS], outcomes[OUTCOMES], most_entries;
 static unsigned long settled[FULLS], struck[STRIKERS][CRZ_CONTRACT_COUNT + 1], at_amount[PAYERS][AMOUNTS];
 static unsigned long at_total[LIMITS], filled[VERDICTS][LIMITS];
 static unsigned long damaged[VERDICTS], stray[VERDICTS];
 
-/* quotes that struck two lots or more; with two at one price, at different prices, both; quotes that struck every lot */
+/* outcomes by class, and behind the last outcome the part payments that were a lot's last */
+static unsigned long by_premium[CLASSES][OUTCOMES + 1];
+
+/* registrations whose other fields are in range: accepted, and refused as out of range */
+static unsigned long registered[VERDICTS][PREMIUMS];
+
+/* bids at which a tonne costs nothing, one yuan, two: accepted, and refused because nothing is left to pay */
+enum { BIDDERS = 2, PRICES = 3 };
+static const uint8_t bidders[BIDDERS] = {CRZ_KIND_LIMIT_BID, CRZ_KIND_MARKET_BID};
+static unsigned long bids_at[BIDDERS][VERDICTS][PRICES];
+
+/* premiums put into images: three that may be, then four that may not */
+enum put_in { AT_LEAST, AT_MOST, ONE_YUAN, BELOW_LEAST, ABOVE_MOST, NOBODYS, NOTHING, PUT_INS };
+static unsigned long put_in[VERDICTS][PUT_INS];
+
+/* quotes that struck two lots or more; with two at one price, at different prices, both; quotes that struck all lots */
 enum { SEVERAL, AT_ONE_PRICE, AT_DIFFERENT_PRICES, AT_BOTH, EVERY_LOT, QUOTES };
 static unsigned long quotes[QUOTES];
 
@@ -73,10 +98,29 @@ static uint8_t kind_of(const struct request *q)
     return kind < KINDS ? kind : 0;
 }
 
+static enum premium_class class_of(int32_t premium)
+{
+    if (premium == CRZ_PREMIUM_LEAST || premium == CRZ_PREMIUM_MOST)
+        return premium < 0 ? LEAST : MOST;
+    if (premium == 0)
+        return NONE;
+    return premium < 0 ? BELOW_ZERO : ABOVE_ZERO;
+}
+
+static void count_by_premium(const struct crz_receipt_fields *receipt, uint32_t outcome)
+{
+    unsigned long *counts = by_premium[class_of(receipt->premium)];
+    if (outcome < OUTCOMES)
+        counts[outcome]++;
+    counts[OUTCOMES] += outcome == CRZ_OUTCOME_PART_PAID && receipt->state == CRZ_STATE_IDLE;
+}
+
 static void count_entry(const struct made *made, uint8_t kind, const struct crz_entry_fields *entry)
 {
     size_t striker = place_of(kind, strikers, STRIKERS);
-    uint32_t contract = crz_get_receipt(made->after, entry->lot).contract;
+    struct crz_receipt_fields receipt = crz_get_receipt(made->after, entry->lot);
+    uint32_t contract = receipt.contract;
+    count_by_premium(&receipt, entry->outcome);
     if (entry->outcome < OUTCOMES)
         outcomes[entry->outcome]++;
     if (entry->outcome == CRZ_OUTCOME_STRUCK && striker < STRIKERS && contract <= CRZ_CONTRACT_COUNT)
@@ -127,6 +171,51 @@ static void count_limit(unsigned long *counts, uint64_t total)
         counts[total - (CRZ_TOTAL_MOST - 1)]++;
 }
 
+static int is_within(uint32_t number, uint32_t least, uint32_t most)
+{
+    return number >= least && number <= most;
+}
+
+static void count_registration(const struct crz_call_fields *call, uint32_t number)
+{
+    size_t i;
+    if (!is_within(call->account, 1, CRZ_ACCOUNT_COUNT) || !is_within(call->receipt, 1, CRZ_RECEIPT_COUNT)
+        || !is_within(call->weight, CRZ_WEIGHT_LEAST, CRZ_WEIGHT_MOST))
+        return;
+    for (i = 0; i < PREMIUMS; i++) {
+        registered[0][i] += number == CRZ_NUMBER_ACCEPTED && call->basis == premiums[i];
+        registered[1][i] += number == CRZ_NUMBER_OUT_OF_RANGE && call->basis == premiums[i];
+    }
+}
+
+/* what a tonne costs at this price, from nothing up to two yuan, is the place of a count; PRICES where it is another
+ * sum */
+static size_t price_place(const struct crz_receipt_fields *receipt, uint32_t price)
+{
+    int64_t sum = (int64_t)price + receipt->basis + receipt->premium;
+    return sum >= 0 && sum < PRICES ? (size_t)sum : PRICES;
+}
+
+static void count_bid(const struct made *made, const struct crz_call_fields *call, size_t bidder)
+{
+    struct crz_receipt_fields receipt = crz_get_receipt(made->before, call->receipt);
+    uint32_t ask = crz_get_ask(made->before, receipt.contract);
+    size_t place = price_place(&receipt, call->kind == CRZ_KIND_LIMIT_BID ? (uint32_t)call->amount : ask);
+    int nothing = made->number == CRZ_NUMBER_NOTHING_TO_PAY;
+    if (place < PRICES && (nothing || made->number == CRZ_NUMBER_ACCEPTED))
+        bids_at[bidder][nothing][place]++;
+}
+
+static void count_premium_and_price(const struct made *made, uint8_t kind)
+{
+    struct crz_call_fields call = crz_get_call(made->request->call);
+    size_t bidder = place_of(kind, bidders, BIDDERS);
+    if (kind == CRZ_KIND_REGISTER)
+        count_registration(&call, made->number);
+    if (bidder < BIDDERS)
+        count_bid(made, &call, bidder);
+}
+
 void count_call(const struct made *made)
 {
     uint8_t kind = kind_of(made->request);
@@ -134,6 +223,7 @@ void count_call(const struct made *made)
     if (made->number >= NUMBERS)
         return;
     returned[kind][made->number]++;
+    count_premium_and_price(made, kind);
     if (made->number == CRZ_NUMBER_ACCEPTED)
         count_entries(made, kind);
     /* numbers 1 to 3 are returned whatever the amount is */
@@ -143,9 +233,42 @@ void count_call(const struct made *made)
         count_limit(at_total, crz_get_total(made->before) + amount);
 }
 
+/* what a premium put into the record is; PUT_INS where it is none of these */
+static enum put_in put_in_of(const struct crz_receipt_fields *receipt)
+{
+    int priced = is_within(receipt->state, CRZ_STATE_BID_STANDS, CRZ_STATE_FIRST_PAID);
+    size_t place = priced ? price_place(receipt, receipt->price) : PRICES;
+    if (receipt->owner == 0)
+        return NOBODYS;
+    switch (receipt->premium) {
+    case CRZ_PREMIUM_LEAST - 1: return BELOW_LEAST;
+    case CRZ_PREMIUM_LEAST: return AT_LEAST;
+    case CRZ_PREMIUM_MOST: return AT_MOST;
+    case CRZ_PREMIUM_MOST + 1: return ABOVE_MOST;
+    default: break;
+    }
+    if (receipt->premium < CRZ_PREMIUM_LEAST || receipt->premium > CRZ_PREMIUM_MOST || place > 1)
+        return PUT_INS;
+    return place == 0 ? NOTHING : ONE_YUAN;
+}
+
+/* a premium that may be can stand in an image that is not valid, where the sums do not fit it: that is not counted */
+static void count_put_in(const struct made *made, uint32_t lot)
+{
+    struct crz_receipt_fields receipt = crz_get_receipt(made->before, lot);
+    enum put_in what = put_in_of(&receipt);
+    int bad = made->number == CRZ_NUMBER_BAD_IMAGE;
+    if (what < PUT_INS && (what > ONE_YUAN || !bad))
+        put_in[bad][what]++;
+}
+
 void count_damaged(const struct made *made)
 {
+    uint32_t lot;
     damaged[made->number == CRZ_NUMBER_BAD_IMAGE]++;
+    for (lot = 1; lot <= CRZ_RECEIPT_COUNT; lot++)
+        if (crz_get_receipt(made->before, lot).premium != crz_get_receipt(made->sound, lot).premium)
+            count_put_in(made, lot);
 }
 
 void count_stray(const struct made *made)
@@ -226,13 +349,40 @@ static void show_amounts(void)
     show_row("settled", settled, "++");
 }
 
+static void show_outcomes(void)
+{
+    unsigned i;
+    show_heads("outcome", 1, OUTCOMES);
+    show_row("entries", outcomes + 1, "+++++++++++++++");
+    show_heads("16: a last payment", 1, OUTCOMES + 1);
+    for (i = 0; i < CLASSES; i++)
+        show_row(class_names[i], by_premium[i] + 1, "++++++++++++++++");
+}
+
+static void show_premiums(void)
+{
+    unsigned i;
+    printf("%-22s %6s %6s %6s %6s %6s\n", "premium", "-5,001", "-5,000", "0", "5,000", "5,001");
+    show_row("registered", registered[0], "-+++-");
+    show_row("out of range", registered[1], "+---+");
+    printf("%-22s %6s %6s %6s\n", "a tonne's price", "0", "1", "2");
+    for (i = 0; i < BIDDERS; i++) {
+        show_row(kinds[bidders[i]].name, bids_at[i][0], "-++");
+        show_row("nothing to pay", bids_at[i][1], "+--");
+    }
+    printf("%-22s %6s %6s %6s %6s %6s %6s %6s\n", "premium put in", "-5,000", "5,000", "price1", "-5,001", "5,001",
+        "nobody", "price0");
+    show_row("image is valid", put_in[0], "+++----");
+    show_row("image is not", put_in[1], "---++++");
+}
+
 void show_counts(unsigned long *reached, unsigned long *unreached)
 {
     show_kinds();
-    show_heads("outcome", 1, OUTCOMES);
-    show_row("entries", outcomes + 1, "+++++++++++++++");
+    show_outcomes();
     show_strikes();
     show_amounts();
+    show_premiums();
     printf("%-22s %6s %6s\n", "made-up images", "valid", "not");
     show_row("a field out of place", damaged, "++");
     show_row("valid, not reached", stray, "+-");

@@ -20,7 +20,7 @@ static const struct field receipt_fields[] = {{CRZ_RECEIPT_OWNER, 1, 0, 1}, {CRZ
     {CRZ_RECEIPT_SELLER, 1, 0, 1}, {CRZ_RECEIPT_BUYER, 1, 0, 1}, {CRZ_RECEIPT_CONTRACT, 1, 0, 1},
     {CRZ_RECEIPT_DAYS, 1, 0, 1}, {CRZ_RECEIPT_DUE, 2, 0, 1}, {CRZ_RECEIPT_WEIGHT, 4, 0, 1},
     {CRZ_RECEIPT_BASIS, 4, 0, 1}, {CRZ_RECEIPT_PRICE, 4, 0, 1}, {CRZ_RECEIPT_PENDING, 4, 0, 1},
-    {CRZ_RECEIPT_CONFIRMED, 4, 0, 1}, {CRZ_RECEIPT_PAID, 4, 0, 1}};
+    {CRZ_RECEIPT_CONFIRMED, 4, 0, 1}, {CRZ_RECEIPT_PAID, 4, 0, 1}, {CRZ_RECEIPT_PREMIUM, 4, 0, 1}};
 
 static uint8_t *account_in(uint8_t *image, uint64_t number)
 {
@@ -80,13 +80,25 @@ static void rebook(uint8_t *image)
     add_up(image);
 }
 
+/* what leaves nothing to pay for a tonne, or one or two yuan, mostly where that is a premium; else an end of the range
+ * of premiums or a number beside it */
+static uint64_t premium_limit(const struct crz_receipt_fields *receipt)
+{
+    int64_t least = (int64_t)below(3) - receipt->price - receipt->basis;
+    int64_t end = percent(50) ? CRZ_PREMIUM_LEAST : CRZ_PREMIUM_MOST;
+    if (least >= CRZ_PREMIUM_LEAST && least <= CRZ_PREMIUM_MOST && percent(80))
+        return (uint64_t)least;
+    return (uint64_t)end - 1 + below(3);
+}
+
 /* a value at the field's own limit, or just beyond */
 static uint64_t limit_of(const struct crz_receipt_fields *receipt, unsigned offset)
 {
     uint64_t full = crz_full_payment(receipt), confirmed = receipt->confirmed, beyond = below(2);
     switch (offset) {
     case CRZ_RECEIPT_DUE: return CRZ_DUE_MOST + beyond;
-    case CRZ_RECEIPT_BASIS: return beyond - receipt->price;
+    case CRZ_RECEIPT_BASIS: return beyond - receipt->price - (uint64_t)receipt->premium;
+    case CRZ_RECEIPT_PREMIUM: return premium_limit(receipt);
     case CRZ_RECEIPT_PENDING: return full - confirmed + beyond;
     case CRZ_RECEIPT_CONFIRMED: return full - receipt->pending - 1 + beyond;
     case CRZ_RECEIPT_PAID: return beyond + (full ? crz_rest_payment(receipt) * confirmed / full : 0);
@@ -94,10 +106,17 @@ static uint64_t limit_of(const struct crz_receipt_fields *receipt, unsigned offs
     }
 }
 
+/* any field; the premium, the last, more often, for few lots have a price near which it decides */
+static const struct field *some_receipt_field(void)
+{
+    size_t last = sizeof receipt_fields / sizeof receipt_fields[0] - 1;
+    return &receipt_fields[percent(20) ? last : (size_t)below(last + 1)];
+}
+
 static void damage_receipt(uint8_t *image, uint64_t number)
 {
     struct crz_receipt_fields receipt = crz_get_receipt(image, (uint32_t)number);
-    const struct field *f = &receipt_fields[below(sizeof receipt_fields / sizeof receipt_fields[0])];
+    const struct field *f = some_receipt_field();
     uint64_t value = percent(80) ? limit_of(&receipt, f->offset) : random_word();
     displace(image + crz_receipt_offset((uint32_t)number) + f->offset, f->size, value);
     if (percent(60))
@@ -135,9 +154,10 @@ static void flip_bit(uint8_t *image)
     image[place] = (uint8_t)(image[place] ^ 1u << below(8));
 }
 
+/* now and then of any receipt, so that one that nobody has registered gets a field too */
 uint64_t damage_image(uint8_t *image)
 {
-    uint64_t draw = below(100), number = between(1, plan.receipts);
+    uint64_t draw = below(100), most = percent(15) ? CRZ_RECEIPT_COUNT : plan.receipts, number = between(1, most);
     if (draw < 60) {
         damage_receipt(image, number);
         return number;

@@ -45,16 +45,31 @@ static void expect_bytes(const char *hex, const char *what)
     expect(strcmp(got, hex) == 0, what);
 }
 
+static void registrations(void)
+{
+    crz_put_register(call, 3, 128, 60000, 0);
+    expect_bytes("0303800000000000"
+                 "0000000000000000"
+                 "0000000060ea0000",
+        "register");
+    crz_put_register(call, 3, 128, 60000, 5000);
+    expect_bytes("0303800000000000"
+                 "0000000000000000"
+                 "8813000060ea0000",
+        "register with a premium");
+    crz_put_register(call, 3, 128, 60000, -5000);
+    expect_bytes("0303800000000000"
+                 "0000000000000000"
+                 "78ecffff60ea0000",
+        "register with a premium below 0");
+}
+
 static void records(void)
 {
     crz_put_pay_in(call, 1, UINT64_C(0x8807060504030201));
     expect_bytes("010100000000000001020304050607880000000000000000", "pay in");
     crz_put_take_out(call, 96, 2);
     expect_bytes("026000000000000002000000000000000000000000000000", "take out");
-    crz_put_register(call, 3, 128, 60000);
-    expect_bytes("03038000000000000000000000000000"
-                 "0000000060ea0000",
-        "register");
     crz_put_list(call, 3, 4, 8, 3, -50000);
     expect_bytes("0403040803000000"
                  "0000000000000000"
@@ -137,7 +152,12 @@ static void put_basis(int64_t value)
 
 static void put_weight(int64_t value)
 {
-    crz_put_register(call, 1, 1, (uint32_t)value);
+    crz_put_register(call, 1, 1, (uint32_t)value, 0);
+}
+
+static void put_premium(int64_t value)
+{
+    crz_put_register(call, 1, 1, CRZ_WEIGHT_LEAST, (int32_t)value);
 }
 
 static void put_amount(int64_t value)
@@ -171,6 +191,7 @@ static void ranges(void)
     range(put_price, CRZ_PRICE_LEAST, CRZ_PRICE_MOST, CRZ_PRICE_STEP, "price");
     range(put_basis, CRZ_BASIS_LEAST, CRZ_BASIS_MOST, 1, "basis");
     range(put_weight, CRZ_WEIGHT_LEAST, CRZ_WEIGHT_MOST, 1, "weight");
+    range(put_premium, CRZ_PREMIUM_LEAST, CRZ_PREMIUM_MOST, 1, "premium");
     range(put_amount, CRZ_AMOUNT_LEAST, (int64_t)CRZ_AMOUNT_MOST, 1, "amount");
     range(put_account, 1, CRZ_ACCOUNT_COUNT, 1, "account");
     range(put_receipt, 1, CRZ_RECEIPT_COUNT, 1, "receipt");
@@ -206,13 +227,14 @@ static void days_and_total(void)
     expect(!valid(), "a total past the largest");
 }
 
-/* full, first and rest for a price, basis and weight */
-static void payments(uint32_t price, int32_t basis, uint32_t weight, uint64_t full, uint64_t first)
+/* full, first and rest for a price, basis, premium and weight */
+static void payments(uint32_t price, int32_t basis, int32_t premium, uint32_t weight, uint64_t full, uint64_t first)
 {
     struct crz_receipt_fields r;
     memset(&r, 0, sizeof r);
     r.price = price;
     r.basis = basis;
+    r.premium = premium;
     r.weight = weight;
     expect(crz_full_payment(&r) == full && crz_first_payment(&r) == first && crz_rest_payment(&r) == full - first,
         "payments");
@@ -229,7 +251,7 @@ static void life(void)
 {
     struct crz_entry_fields entry;
     crz_fresh(image, sizeof image);
-    crz_put_register(call, 1, 9, 41237);
+    crz_put_register(call, 1, 9, 41237, 0);
     expect(make() == CRZ_NUMBER_ACCEPTED && crz_get_receipt(image, 9).weight == 41237, "registered");
     crz_put_list(call, 1, 9, 2, 0, 300);
     expect(make() == CRZ_NUMBER_ACCEPTED && crz_get_receipt(image, 9).basis == 300, "listed");
@@ -255,6 +277,136 @@ static void life(void)
     expect(make() == CRZ_NUMBER_ACCEPTED && held_is_frozen(9, 2), "first paid");
 }
 
+static int premium_is(int32_t premium)
+{
+    return crz_get_receipt(image, 9).premium == premium;
+}
+
+/* a call that is accepted and leaves the premium as it was */
+static void expect_kept(int32_t premium, const char *what)
+{
+    expect(make() == CRZ_NUMBER_ACCEPTED && premium_is(premium), what);
+}
+
+/* account 1 has receipt 9 registered with this premium and listed with this basis, account 2 has money */
+static void offer(int32_t premium, int32_t basis)
+{
+    crz_fresh(image, sizeof image);
+    crz_put_pay_in(call, 2, 1000000000);
+    make();
+    crz_put_register(call, 1, 9, 41237, premium);
+    expect_kept(premium, "registered with a premium");
+    crz_put_list(call, 1, 9, 2, 0, basis);
+    expect_kept(premium, "listed");
+}
+
+/* the lot is struck and lodged; the close settles it, with this full payment, and the receipt is the buyer's */
+static void settle(int32_t premium, uint32_t full)
+{
+    crz_put_limit_bid(call, 2, 9, 15000);
+    expect_kept(premium, "bid");
+    crz_put_quote(call, 2, 15000);
+    expect_kept(premium, "struck");
+    crz_put_lodge(call, 1, 9);
+    expect_kept(premium, "lodged");
+    crz_put_morning_close(call);
+    expect_kept(premium, "settled");
+    expect(crz_get_entry(answer, 0).outcome == CRZ_OUTCOME_SETTLED && crz_get_entry(answer, 0).number == full, "full");
+    expect(crz_get_receipt(image, 9).owner == 2 && held_is_frozen(9, 2), "the buyer's, with its premium");
+}
+
+/* the first payment and two invoices; the receipt is then idle, and its next sale has the premium too */
+static void pay(int32_t premium, uint32_t full, uint32_t first)
+{
+    crz_put_first_payment(call, 1, 9);
+    expect_kept(premium, "first paid");
+    expect(crz_get_entry(answer, 0).number == first, "the first payment");
+    crz_put_invoice(call, 1, 9, 1000);
+    expect_kept(premium, "invoiced");
+    crz_put_confirm(call, 2, 9);
+    expect_kept(premium, "part paid");
+    crz_put_invoice(call, 1, 9, full - 1000);
+    expect_kept(premium, "invoiced up to full");
+    crz_put_confirm(call, 2, 9);
+    expect_kept(premium, "paid, the lot ended");
+    expect(crz_get_account(image, 1).free == full && crz_get_account(image, 2).free == 1000000000 - full, "the books");
+    crz_put_list(call, 2, 9, 1, 3, -300);
+    expect_kept(premium, "listed by the buyer");
+    crz_put_withdraw_listing(call, 2, 9);
+    expect_kept(premium, "withdrawn");
+}
+
+/* a seller who does not lodge: the premium stays while the penalty is due, and after it */
+static void default_of_seller(int32_t premium)
+{
+    crz_put_limit_bid(call, 2, 9, 15000);
+    make();
+    crz_put_quote(call, 2, 15000);
+    make();
+    crz_put_morning_close(call);
+    expect_kept(premium, "seller default");
+    expect(crz_get_receipt(image, 9).state == CRZ_STATE_PENALTY_DUE, "penalty due");
+    crz_put_day_close(call);
+    expect_kept(premium, "the next day");
+    crz_put_morning_close(call);
+    expect_kept(premium, "the penalty over");
+    expect(crz_get_receipt(image, 9).state == CRZ_STATE_IDLE, "idle");
+}
+
+/* the least price that leaves something to pay, and the one that leaves nothing: basis and premium together */
+static void least_price(int32_t premium, int32_t basis)
+{
+    offer(premium, basis);
+    crz_put_limit_bid(call, 2, 9, 5);
+    expect(tried() == CRZ_NUMBER_ACCEPTED, "one yuan for a tonne");
+    offer(premium, basis - 1);
+    crz_put_limit_bid(call, 2, 9, 5);
+    expect(tried() == CRZ_NUMBER_NOTHING_TO_PAY, "nothing for a tonne");
+    crz_put_quote(call, 2, 5);
+    make();
+    crz_put_market_bid(call, 2, 9);
+    expect(tried() == CRZ_NUMBER_NOTHING_TO_PAY, "nothing for a tonne at the ask");
+}
+
+/* an image with another premium for receipt 9 */
+static int valid_with(int32_t premium)
+{
+    crz_put_i32(image + crz_receipt_offset(9) + CRZ_RECEIPT_PREMIUM, premium);
+    return valid();
+}
+
+static void images(void)
+{
+    crz_fresh(image, sizeof image);
+    expect(!valid_with(1) && !valid_with(-1) && valid_with(0), "a receipt that is not registered has no premium");
+    offer(0, 300);
+    expect(valid_with(CRZ_PREMIUM_LEAST) && valid_with(CRZ_PREMIUM_MOST), "the ends of the range in an image");
+    expect(!valid_with(CRZ_PREMIUM_LEAST - 1) && !valid_with(CRZ_PREMIUM_MOST + 1), "beyond them");
+    offer(0, -300);
+    crz_put_limit_bid(call, 2, 9, 4000);
+    make();
+    expect(
+        valid_with(-3699) && !valid_with(-3700), "a premium that leaves something of the bid, and one that does not");
+}
+
+static void premiums(void)
+{
+    offer(-5000, 300);
+    settle(-5000, 42474110);
+    pay(-5000, 42474110, 33979288);
+    offer(5000, -300);
+    settle(5000, 81236890);
+    pay(5000, 81236890, 64989512);
+    offer(0, 300);
+    settle(0, 63092610);
+    pay(0, 63092610, 50474088);
+    offer(-1234, 0);
+    default_of_seller(-1234);
+    least_price(CRZ_PREMIUM_LEAST, CRZ_PREMIUM_MOST - 4);
+    least_price(CRZ_PREMIUM_MOST, CRZ_PREMIUM_LEAST - 4);
+    images();
+}
+
 int main(void)
 {
     char version[32];
@@ -262,16 +414,24 @@ int main(void)
     expect(strcmp(version, CRZ_VERSION) == 0, "the version");
     expect(CRZ_IMAGE_RECEIPTS + CRZ_RECEIPT_COUNT * CRZ_RECEIPT_LENGTH == CRZ_IMAGE_LENGTH, "the image's length");
     expect(CRZ_ANSWER_ENTRIES + CRZ_ENTRY_COUNT * CRZ_ENTRY_LENGTH == CRZ_ANSWER_LENGTH, "the answer's length");
+    registrations();
     records();
     fields();
     ranges();
     days_and_total();
-    payments(15000, 300, 41237, 63092610, 50474088);
-    payments(15005, 300, 41237, 63113229, 50490583);
-    payments(5, -4, 1000, 100, 80);
-    payments(5, -5, 1000, 0, 0);
-    payments(200000, 50000, 60000, 1500000000, 1200000000);
+    payments(15000, 300, 0, 41237, 63092610, 50474088);
+    payments(15005, 300, 0, 41237, 63113229, 50490583);
+    payments(5, -4, 0, 1000, 100, 80);
+    payments(5, -5, 0, 1000, 0, 0);
+    payments(200000, 50000, 0, 60000, 1500000000, 1200000000);
+    payments(15000, 300, -5000, 41237, 42474110, 33979288);
+    payments(15000, 300, 5000, 41237, 83711110, 66968888);
+    payments(5, -5000, 4996, 1000, 100, 80);
+    payments(5, 4996, -5000, 1000, 100, 80);
+    payments(5, 0, -5, 1000, 0, 0);
+    payments(200000, 50000, 5000, 60000, 1530000000, 1224000000);
     life();
+    premiums();
     printf("%lu passed, %lu failed\n", passed, failed);
     return failed != 0;
 }

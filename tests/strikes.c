@@ -59,6 +59,12 @@ static const struct prices {
 
 /* ── A zone with a bid on each lot ─────────────────────────────────────────────────────────────── */
 
+/* of both signs, and none: no premium moves a strike, for strikes stand by the price that was bid */
+static int32_t premium_of(uint32_t lot)
+{
+    return CRZ_PREMIUM_LEAST + CRZ_PREMIUM_MOST / 2 * (int32_t)(lot * 3 % 5);
+}
+
 static uint32_t buyer_of(uint32_t lot)
 {
     return FIRST_BUYER + lot % BUYERS;
@@ -75,7 +81,7 @@ static unsigned bid_for_all(const struct prices *prices)
         refused += make() != CRZ_NUMBER_ACCEPTED;
     }
     for (n = 1; n <= CRZ_RECEIPT_COUNT; n++) {
-        crz_put_register(call, SELLER, n, 41000 + n);
+        crz_put_register(call, SELLER, n, 41000 + n, premium_of(n));
         refused += make() != CRZ_NUMBER_ACCEPTED;
         crz_put_list(call, SELLER, n, CONTRACT, 0, 300);
         refused += make() != CRZ_NUMBER_ACCEPTED;

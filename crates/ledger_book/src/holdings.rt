@@ -12,6 +12,7 @@ use crate::payments::rest_payment;
 use crate::places::BASIS;
 use crate::places::BUYER;
 use crate::places::PAID;
+use crate::places::PREMIUM;
 use crate::places::PRICE;
 use crate::places::STATE;
 use crate::places::WEALTH;
@@ -21,6 +22,7 @@ pub fn full_of(book: &Book, lot: u64) -> u64 {
     full_payment(
         cell(book, PRICE, lot),
         cell(book, BASIS, lot),
+        cell(book, PREMIUM, lot),
         cell(book, WEIGHT, lot),
     )
 }

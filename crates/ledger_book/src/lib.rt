@@ -1,5 +1,5 @@
 // The second ledger's book: what stands where in the buffers, the columns that an image is read into, and what the lots hold. It is
-// written from document 01 alone and shares no code with the library.
+// written from documents 01 and 02 alone and shares no code with the library.
 mod columns;
 mod fields;
 mod holdings;
@@ -40,6 +40,8 @@ pub use payments::plus;
 pub use payments::product;
 pub use payments::rest_payment;
 pub use payments::share;
+pub use payments::signed;
+pub use payments::signed_price;
 pub use payments::unit_price;
 pub use places::ACCOUNT_COUNT;
 pub use places::ACCOUNT_OFFSET;
@@ -87,6 +89,7 @@ pub use places::PAGE_LENGTH;
 pub use places::PAID;
 pub use places::PENDING;
 pub use places::PHASE;
+pub use places::PREMIUM;
 pub use places::PRICE;
 pub use places::RECEIPT_COLUMNS_END;
 pub use places::RECEIPT_COUNT;
@@ -113,6 +116,7 @@ pub use ranges::LEAST_WEIGHT;
 pub use ranges::MOST_AMOUNT;
 pub use ranges::MOST_BASIS;
 pub use ranges::MOST_DAYS;
+pub use ranges::MOST_PREMIUM;
 pub use ranges::MOST_PRICE;
 pub use ranges::MOST_TOTAL;
 pub use ranges::MOST_WEIGHT;
@@ -121,6 +125,7 @@ pub use ranges::is_account;
 pub use ranges::is_amount;
 pub use ranges::is_basis;
 pub use ranges::is_contract;
+pub use ranges::is_premium;
 pub use ranges::is_price;
 pub use ranges::is_receipt;
 pub use ranges::is_weight;

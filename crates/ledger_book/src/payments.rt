@@ -32,21 +32,31 @@ pub fn share(x: u64, y: u64, z: u64) -> u64 {
     product(x, y) / z
 }
 
-// price + basis, 0 where that is below 1. `basis` has the 32 bits of the i32: from 2^31 on it stands for a number 2^32 lower.
-pub fn unit_price(price: u64, basis: u64) -> u64 {
-    if basis < 2147483648 {
-        return plus(price, basis);
+// The 32 bits of an i32 as the number that they stand for, modulo 2^64: from 2^31 on it is one below 0, 2^32 lower than the bits.
+pub fn signed(bits: u64) -> u64 {
+    if bits < 2147483648 {
+        return bits;
     }
-    let below = minus(4294967296, basis);
-    if price > below {
-        return minus(price, below);
-    }
-    0
+    minus(bits, 4294967296)
 }
 
-// Yuan per tonne times kilograms is a tenth of a fen; half a fen is rounded up (01 Money 2).
-pub fn full_payment(price: u64, basis: u64, weight: u64) -> u64 {
-    plus(product(unit_price(price, basis), weight), 5) / 10
+// price + basis + premium, with its sign, modulo 2^64. Each of the three has 32 bits, so the sum lies far from 2^63 on either side.
+pub fn signed_price(price: u64, basis: u64, premium: u64) -> u64 {
+    plus(price, plus(signed(basis), signed(premium)))
+}
+
+// What a tonne costs: that sum, 0 where it is below 1 (02 2/12).
+pub fn unit_price(price: u64, basis: u64, premium: u64) -> u64 {
+    let sum = signed_price(price, basis, premium);
+    if sum > 9223372036854775807 {
+        return 0;
+    }
+    sum
+}
+
+// Yuan per tonne times kilograms is a tenth of a fen; half a fen is rounded up (01 Money 2, 02 2/12).
+pub fn full_payment(price: u64, basis: u64, premium: u64, weight: u64) -> u64 {
+    plus(product(unit_price(price, basis, premium), weight), 5) / 10
 }
 
 // Four fifths, rounded down (01 Money 3).

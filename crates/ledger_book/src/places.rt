@@ -1,4 +1,4 @@
-// Where each field stands in an image (01 Image 1 to 4), in a call record (01 Calls 2) and in an answer (01 Answers 1 and 3).
+// Where each field stands in an image (01 Image 1 to 4, 02 2/12), in a call record (01 Calls 2) and in an answer (01 Answers 1 and 3).
 //
 // No other file of the second ledger or of the long runs says a length, a start or a size. A field is known by where it ends in its
 // record; it starts where the one before it ends. The lengths of records and buffers and the starts of tables follow. The fields of an
@@ -92,7 +92,9 @@ const CONFIRMED_END: u64 = PENDING_END + U32;
 
 const PAID_END: u64 = CONFIRMED_END + U32;
 
-pub const RECEIPT_LENGTH: u64 = PAID_END;
+const PREMIUM_END: u64 = PAID_END + U32;
+
+pub const RECEIPT_LENGTH: u64 = PREMIUM_END;
 
 // ── The image ───────────────────────────────────────────────────────────────────────────────────
 
@@ -190,7 +192,7 @@ pub const FROZEN: u64 = FREE + 1;
 // A contract's.
 pub const ASK: u64 = FROZEN + 1;
 
-// A receipt's. Basis is kept as its 32 bits, unsigned.
+// A receipt's. Basis and premium are kept as their 32 bits, unsigned.
 pub const OWNER: u64 = ASK + 1;
 
 pub const STATE: u64 = OWNER + 1;
@@ -217,8 +219,10 @@ pub const CONFIRMED: u64 = PENDING + 1;
 
 pub const PAID: u64 = CONFIRMED + 1;
 
+pub const PREMIUM: u64 = PAID + 1;
+
 // Receipts end before this column, and so does the image.
-pub const RECEIPT_COLUMNS_END: u64 = PAID + 1;
+pub const RECEIPT_COLUMNS_END: u64 = PREMIUM + 1;
 
 pub const IMAGE_COLUMNS_END: u64 = RECEIPT_COLUMNS_END;
 
@@ -270,6 +274,7 @@ const ENDS: [u64; PLACED_COLUMNS] = [
     PENDING_END,
     CONFIRMED_END,
     PAID_END,
+    PREMIUM_END,
     LOT_END,
     OUTCOME_END,
     FROM_END,

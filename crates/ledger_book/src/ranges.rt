@@ -1,4 +1,4 @@
-// The ranges that calls and images share (01 Image 15 and 17), and the last kind, outcome and number that there are.
+// The ranges that calls and images share (01 Image 15 and 17, 02 2/12), and the last kind, outcome and number that there are.
 use crate::places::ACCOUNTS;
 use crate::places::CONTRACTS;
 use crate::places::RECEIPTS;
@@ -24,10 +24,14 @@ pub const MOST_PRICE: u64 = 200000;
 
 pub const MOST_BASIS: u64 = 50000;
 
-// The lowest basis as the 32 bits of an i32, and the last of these 32 bits.
+pub const MOST_PREMIUM: u64 = 5000;
+
+// The lowest basis and the lowest premium as the 32 bits of an i32, and -1, the last of these 32 bits.
 const LEAST_BASIS: u64 = 4294967296 - MOST_BASIS;
 
-const LAST_BASIS: u64 = 4294967295;
+const LEAST_PREMIUM: u64 = 4294967296 - MOST_PREMIUM;
+
+const BELOW_ZERO: u64 = 4294967295;
 
 pub const LEAST_WEIGHT: u64 = 1000;
 
@@ -64,7 +68,11 @@ pub fn is_price(x: u64) -> bool {
 
 // `x` has the 32 bits of an i32: the numbers below 0 are its last ones.
 pub fn is_basis(x: u64) -> bool {
-    (x <= MOST_BASIS) | within(x, LEAST_BASIS, LAST_BASIS)
+    (x <= MOST_BASIS) | within(x, LEAST_BASIS, BELOW_ZERO)
+}
+
+pub fn is_premium(x: u64) -> bool {
+    (x <= MOST_PREMIUM) | within(x, LEAST_PREMIUM, BELOW_ZERO)
 }
 
 pub fn is_weight(x: u64) -> bool {

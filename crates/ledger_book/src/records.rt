@@ -10,7 +10,7 @@ use crate::places::CALL_RECEIPT_END;
 use crate::places::CALL_WEIGHT_END;
 use crate::places::CALL_ZEROS_END;
 
-// `amount` is a price in bids and quotes.
+// `amount` is a price in bids and quotes, `basis` the premium where a receipt is registered.
 pub struct Call {
     pub kind: u64,
     pub account: u64,

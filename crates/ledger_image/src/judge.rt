@@ -1,4 +1,4 @@
-// Whether the image that the book has is valid (01 Image 7 to 17).
+// Whether the image that the book has is valid (01 Image 7 to 17, 02 2/12).
 use ledger_book::ACCOUNT_COUNT;
 use ledger_book::ACCOUNT_OFFSET;
 use ledger_book::ACCOUNT_START;
@@ -27,6 +27,7 @@ use ledger_book::OWNER;
 use ledger_book::PAID;
 use ledger_book::PENDING;
 use ledger_book::PHASE;
+use ledger_book::PREMIUM;
 use ledger_book::PRICE;
 use ledger_book::RECEIPT_COUNT;
 use ledger_book::RECEIPT_OFFSET;
@@ -46,6 +47,7 @@ use ledger_book::hold;
 use ledger_book::is_account;
 use ledger_book::is_basis;
 use ledger_book::is_contract;
+use ledger_book::is_premium;
 use ledger_book::is_price;
 use ledger_book::is_weight;
 use ledger_book::lower;
@@ -84,6 +86,7 @@ fn is_filled(column: u64, state: u64) -> bool {
         OWNER => true,
         STATE => true,
         WEIGHT => true,
+        PREMIUM => true,
         SELLER => within(state, 1, 7),
         BUYER => within(state, 2, 7),
         PRICE => within(state, 2, 6),
@@ -106,6 +109,7 @@ fn in_range(column: u64, value: u64) -> bool {
         DAYS => value <= MOST_DAYS,
         DUE => within(value, 1, LAST_DUE),
         WEIGHT => is_weight(value),
+        PREMIUM => is_premium(value),
         BASIS => is_basis(value),
         PRICE => is_price(value),
         _ => true,
@@ -171,7 +175,11 @@ fn parties_ok(book: &Book, lot: u64) -> bool {
 
 // From the bid to the last payment there is something to pay.
 fn price_ok(book: &Book, lot: u64) -> bool {
-    let unit = unit_price(cell(book, PRICE, lot), cell(book, BASIS, lot));
+    let unit = unit_price(
+        cell(book, PRICE, lot),
+        cell(book, BASIS, lot),
+        cell(book, PREMIUM, lot),
+    );
     !within(cell(book, STATE, lot), 2, 6) | (unit >= 1)
 }
 

@@ -8,6 +8,7 @@ use ledger_book::DEPOSIT;
 use ledger_book::DUE;
 use ledger_book::OWNER;
 use ledger_book::PHASE;
+use ledger_book::PREMIUM;
 use ledger_book::RECEIPT_COLUMNS_END;
 use ledger_book::ROWS;
 use ledger_book::SELLER;
@@ -24,10 +25,10 @@ use ledger_book::raise;
 use ledger_book::set_cell;
 use ledger_book::within;
 
-// A lot ends: the receipt is idle and keeps its owner and weight.
+// A lot ends: the receipt is idle and keeps its owner, weight and premium.
 pub fn end(book: &mut Book, lot: u64) {
     for column in STATE..RECEIPT_COLUMNS_END {
-        if column != WEIGHT {
+        if (column != WEIGHT) & (column != PREMIUM) {
             set_cell(book, column, lot, 0);
         }
     }

@@ -16,6 +16,7 @@ use ledger_book::OWNER;
 use ledger_book::PAID;
 use ledger_book::PENDING;
 use ledger_book::PHASE;
+use ledger_book::PREMIUM;
 use ledger_book::PRICE;
 use ledger_book::ROWS;
 use ledger_book::SELLER;
@@ -51,6 +52,7 @@ fn take_out(book: &mut Book, c: Call) {
 fn register(book: &mut Book, c: Call) {
     set_cell(book, OWNER, c.receipt, c.account);
     set_cell(book, WEIGHT, c.receipt, c.weight);
+    set_cell(book, PREMIUM, c.receipt, c.basis);
     note(book, c.receipt, 1, c.account, 0, 0);
 }
 

@@ -1,4 +1,4 @@
-// Bids and quotes (01 Calls 8 to 12).
+// Bids and quotes (01 Calls 8 to 12, 02 2/12).
 use crate::lots::is_buyer;
 use crate::lots::is_open;
 use crate::lots::is_seller;
@@ -7,6 +7,7 @@ use ledger_book::BASIS;
 use ledger_book::Book;
 use ledger_book::Call;
 use ledger_book::DEPOSIT;
+use ledger_book::PREMIUM;
 use ledger_book::PRICE;
 use ledger_book::STATE;
 use ledger_book::ask_of;
@@ -29,7 +30,9 @@ fn lacks_deposit(book: &Book, c: Call) -> bool {
 
 // 10 and 11 of a bid at this price.
 fn number_of_bid(book: &Book, c: Call, price: u64) -> u64 {
-    if unit_price(price, cell(book, BASIS, c.receipt)) < 1 {
+    let basis = cell(book, BASIS, c.receipt);
+    let premium = cell(book, PREMIUM, c.receipt);
+    if unit_price(price, basis, premium) < 1 {
         return 10;
     }
     if lacks_deposit(book, c) {

@@ -14,6 +14,7 @@ use ledger_book::is_account;
 use ledger_book::is_amount;
 use ledger_book::is_basis;
 use ledger_book::is_contract;
+use ledger_book::is_premium;
 use ledger_book::is_receipt;
 use ledger_book::is_weight;
 use ledger_book::minus;
@@ -35,9 +36,9 @@ pub fn number_at_lot(c: Call, in_state: bool, by_party: bool) -> u64 {
 
 // ── Receipts ────────────────────────────────────────────────────────────────────────────────────
 
-// Anyone may register a receipt that nobody owns (01 Calls 5).
+// Anyone may register a receipt that nobody owns, with a premium in the basis' place (01 Calls 5, 02 2/12).
 pub fn register(book: &Book, c: Call) -> u64 {
-    if !is_weight(c.weight) {
+    if !(is_premium(c.basis) & is_weight(c.weight)) {
         return 4;
     }
     number_at_lot(c, cell(book, OWNER, c.receipt) == 0, true)

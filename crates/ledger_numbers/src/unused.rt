@@ -1,4 +1,4 @@
-// 3: a field that the kind does not use is not zero (01 Calls 3 to 25, Answers 14).
+// 3: a field that the kind does not use is not zero (01 Calls 3 to 25, Answers 14, 02 2/12).
 use ledger_book::Call;
 
 // The fields that stand in no kind's brackets but 3's, 4's and 9's, put together bit by bit.
@@ -12,7 +12,7 @@ pub fn unused(c: Call) -> u64 {
     match kind {
         1 => c.receipt | terms(c),
         2 => c.receipt | terms(c),
-        3 => c.contract | c.days | c.amount | c.basis,
+        3 => c.contract | c.days | c.amount,
         4 => c.amount | c.weight,
         5 => c.amount | terms(c),
         6 => terms(c),

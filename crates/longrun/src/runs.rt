@@ -39,10 +39,11 @@ pub fn all_lengths(tally: &mut Tally) {
 fn judge_altered(seed: &mut u64, plan: Plan, image: &Page, tally: &mut Tally) {
     let mut copy: Page = *image;
     let q = alter(seed, plan, &mut copy);
+    let altered: Page = copy;
     let mut second: Page = copy;
     let mut answer: Page = filled();
     let v = drive(q, &mut copy, &mut second, &mut answer);
-    count_altered(q, v, tally);
+    count_altered(q, v, image, &altered, tally);
 }
 
 fn make(q: Request, image: &mut Page, second: &mut Page, tally: &mut Tally) {

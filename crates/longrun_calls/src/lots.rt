@@ -1,4 +1,6 @@
 // Calls that take a lot a step on, chosen by its state.
+use ledger_book::ASK;
+use ledger_book::BASIS;
 use ledger_book::BUYER;
 use ledger_book::CONFIRMED;
 use ledger_book::CONTRACT;
@@ -6,13 +8,16 @@ use ledger_book::DEPOSIT;
 use ledger_book::MOST_AMOUNT;
 use ledger_book::OWNER;
 use ledger_book::PENDING;
+use ledger_book::PREMIUM;
 use ledger_book::PRICE;
 use ledger_book::Page;
 use ledger_book::SELLER;
 use ledger_book::STATE;
+use ledger_book::is_price;
 use ledger_book::minus;
 use ledger_book::page_cell;
 use ledger_book::plus;
+use ledger_book::signed;
 use longrun_draws::Request;
 use longrun_draws::await_close;
 use longrun_draws::below;
@@ -28,14 +33,34 @@ use longrun_draws::request_of;
 use longrun_draws::some_basis;
 use longrun_draws::some_contract;
 use longrun_draws::some_days;
+use longrun_draws::some_premium;
 use longrun_draws::some_weight;
+use longrun_draws::to_nothing;
 
 // ── Receipts and listings ───────────────────────────────────────────────────────────────────────
 
 fn register(seed: &mut u64, accounts: u64, lot: u64) -> Request {
     let mut q = request_of(3, between(seed, 1, accounts), lot, 0);
+    q.basis = some_premium(seed);
     q.weight = some_weight(seed);
     q
+}
+
+fn premium_of(image: &Page, lot: u64) -> u64 {
+    signed(page_cell(image, PREMIUM, lot))
+}
+
+// Now and then a basis with which a tonne costs next to nothing at the contract's ask, or at a price that will be bid.
+fn listed_basis(seed: &mut u64, image: &Page, lot: u64, contract: u64) -> u64 {
+    let premium = premium_of(image, lot);
+    let mut price = page_cell(image, ASK, contract);
+    if percent(seed, 90) {
+        return some_basis(seed, contract, premium);
+    }
+    if price == 0 {
+        price = near_price(seed, contract);
+    }
+    to_nothing(seed, price, premium)
 }
 
 fn list(seed: &mut u64, accounts: u64, image: &Page, lot: u64) -> Request {
@@ -44,7 +69,7 @@ fn list(seed: &mut u64, accounts: u64, image: &Page, lot: u64) -> Request {
     let contract = some_contract(seed, image);
     q.contract = contract;
     q.days = some_days(seed);
-    q.basis = some_basis(seed, contract);
+    q.basis = listed_basis(seed, image, lot, contract);
     q
 }
 
@@ -59,9 +84,14 @@ fn list_or_register(seed: &mut u64, accounts: u64, image: &Page, lot: u64) -> Re
 
 // ── Bids ────────────────────────────────────────────────────────────────────────────────────────
 
-// Near the standing bid, or a price of the contract.
+// Near the standing bid, or a price of the contract, or one at which a tonne costs next to nothing.
 fn bid_price(seed: &mut u64, image: &Page, lot: u64) -> u64 {
     let standing = page_cell(image, PRICE, lot);
+    let basis = signed(page_cell(image, BASIS, lot));
+    let least = to_nothing(seed, basis, premium_of(image, lot));
+    if is_price(least) & percent(seed, 30) {
+        return least;
+    }
     if (standing != 0) & percent(seed, 70) {
         return price_beside(seed, standing);
     }

@@ -2,6 +2,7 @@
 use ledger_book::ACCOUNTS;
 use ledger_book::CONTRACTS;
 use ledger_book::MOST_AMOUNT;
+use ledger_book::MOST_PREMIUM;
 use ledger_book::MOST_TOTAL;
 use ledger_book::PRICE_STEP;
 use ledger_book::RECEIPTS;
@@ -60,8 +61,10 @@ const SELLER_OF_ALL: u64 = 2;
 
 const ASKED: u64 = 15000;
 
+// With a premium that goes from one end of the range to the other in four steps, lot by lot.
 fn register(lot: u64) -> Request {
     let mut q = request_of(3, SELLER_OF_ALL, lot, 0);
+    q.basis = minus(product(lot % 5, MOST_PREMIUM / 2), MOST_PREMIUM);
     q.weight = plus(40000, lot);
     q
 }

@@ -1,4 +1,6 @@
 // What a call has reached.
+use crate::limits::count_limits;
+use crate::limits::count_premiums;
 use crate::rows::line;
 use crate::tally::AT_BOTH;
 use crate::tally::AT_DIFFERENT_PRICES;
@@ -7,40 +9,38 @@ use crate::tally::BID_ON;
 use crate::tally::CALLS;
 use crate::tally::DIFFERENCES;
 use crate::tally::FRESH;
-use crate::tally::INVOICE_AMOUNT;
 use crate::tally::KIND_ROWS;
+use crate::tally::LAST_PAYMENT;
 use crate::tally::LISTED;
 use crate::tally::MOST_ENTRIES;
-use crate::tally::OUTCOMES;
-use crate::tally::PAY_IN_AMOUNT;
 use crate::tally::QUOTED;
 use crate::tally::REFUSED_IMAGES;
 use crate::tally::SEVERAL_STRUCK;
 use crate::tally::STRUCK;
-use crate::tally::TAKE_OUT_AMOUNT;
-use crate::tally::TOTAL_AFTER;
-use crate::tally::TOTAL_BEFORE;
 use crate::tally::Tally;
 use crate::tally::VALID_IMAGES;
 use crate::tally::add;
-use crate::tally::at_limit;
 use crate::tally::counted;
 use crate::tally::of_contract;
+use crate::tally::of_outcome;
 use crate::tally::pair;
 use crate::tally::set;
 use ledger_book::ANSWER_PHASE_END;
 use ledger_book::CONTRACT;
 use ledger_book::ENTRY_COUNT_END;
-use ledger_book::MOST_AMOUNT;
-use ledger_book::MOST_TOTAL;
+use ledger_book::LOT;
+use ledger_book::MOST_PREMIUM;
 use ledger_book::NUMBER;
 use ledger_book::OUTCOME;
+use ledger_book::PREMIUM;
 use ledger_book::Page;
 use ledger_book::RECEIPTS;
+use ledger_book::STATE;
 use ledger_book::minus;
 use ledger_book::page_cell;
 use ledger_book::page_field;
 use ledger_book::plus;
+use ledger_book::signed;
 use longrun_draws::Request;
 
 // ── Entries ─────────────────────────────────────────────────────────────────────────────────────
@@ -49,15 +49,47 @@ fn entries_in(answer: &Page) -> u64 {
     page_field(answer, ANSWER_PHASE_END, ENTRY_COUNT_END)
 }
 
-fn count_entries(answer: &Page, tally: &mut Tally) {
+// Which of the five classes a premium is of, from 1 on.
+fn class_of(premium: u64) -> u64 {
+    if premium == 0 {
+        return 3;
+    }
+    if premium == MOST_PREMIUM {
+        return 5;
+    }
+    if premium == minus(0, MOST_PREMIUM) {
+        return 1;
+    }
+    if premium < MOST_PREMIUM {
+        return 4;
+    }
+    2
+}
+
+fn count_outcome(outcome: u64, class: u64, tally: &mut Tally) {
+    add(tally, of_outcome(outcome, 0), 1);
+    add(tally, of_outcome(outcome, class), 1);
+}
+
+// A part payment that leaves the receipt idle was the last one.
+fn count_entry(k: u64, image: &Page, answer: &Page, tally: &mut Tally) {
+    let outcome = page_cell(answer, OUTCOME, k);
+    let lot = page_cell(answer, LOT, k);
+    let class = class_of(signed(page_cell(image, PREMIUM, lot)));
+    count_outcome(outcome, class, tally);
+    if (outcome == 11) & (page_cell(image, STATE, lot) == 0) {
+        count_outcome(LAST_PAYMENT, class, tally);
+    }
+}
+
+fn count_entries(image: &Page, answer: &Page, tally: &mut Tally) {
     let entries = entries_in(answer);
     if entries > counted(tally, MOST_ENTRIES) {
         set(tally, MOST_ENTRIES, entries);
     }
     for k in 1..RECEIPTS + 1 {
         if k <= entries {
-            let outcome = page_cell(answer, OUTCOME, k);
-            add(tally, plus(OUTCOMES, outcome), 1);
+            count_entry(k, image, answer, tally);
         }
     }
 }
@@ -125,42 +157,6 @@ fn count_contract(q: Request, image: &Page, answer: &Page, tally: &mut Tally) {
     }
 }
 
-// ── Limits ──────────────────────────────────────────────────────────────────────────────────────
-
-// Counts a value that is at a limit or beside it, with the number that the call returned.
-fn count_limit(tally: &mut Tally, limit: u64, distance: u64, number: u64, refusal: u64) {
-    let step = plus(distance, 1);
-    if step > 2 {
-        return;
-    }
-    let place = at_limit(limit, step);
-    add(tally, place, 1);
-    if number == 0 {
-        add(tally, plus(place, 1), 1);
-    }
-    if number == refusal {
-        add(tally, plus(place, 2), 1);
-    }
-}
-
-// Amounts about the most that a call may name, and totals about the most that a zone may hold: the total that the image has, and the one
-// that a pay-in would make.
-fn count_limits(q: Request, total: u64, number: u64, tally: &mut Tally) {
-    let kind = q.kind;
-    let beyond = minus(q.amount, MOST_AMOUNT);
-    let before = minus(total, MOST_TOTAL);
-    count_limit(tally, TOTAL_BEFORE, before, number, 2);
-    match kind {
-        1 => {
-            count_limit(tally, PAY_IN_AMOUNT, beyond, number, 4);
-            count_limit(tally, TOTAL_AFTER, plus(before, q.amount), number, 12);
-        }
-        2 => count_limit(tally, TAKE_OUT_AMOUNT, beyond, number, 4),
-        13 => count_limit(tally, INVOICE_AMOUNT, beyond, number, 4),
-        _ => {}
-    }
-}
-
 // ── Differences ─────────────────────────────────────────────────────────────────────────────────
 
 // The total before the call, both numbers, and whether number, image and answer are as they must be.
@@ -206,18 +202,20 @@ pub fn count_call(q: Request, v: Verdict, image: &Page, answer: &Page, tally: &m
     let number = v.of_library;
     add(tally, CALLS, 1);
     add(tally, pair(kind_row(q.kind), number), 1);
-    count_limits(q, v.total, number, tally);
+    count_limits(q, image, v.total, number, tally);
     if number == 0 {
-        count_entries(answer, tally);
+        count_entries(image, answer, tally);
         count_contract(q, image, answer, tally);
     }
     show(b"difference at call ", q.kind, v, tally);
 }
 
-// Apart from the others: what an altered image answers says little of how often a rule is reached.
-pub fn count_altered(q: Request, v: Verdict, tally: &mut Tally) {
+// Apart from the others: what an altered image answers says little of how often a rule is reached. `sound` is the image before it was
+// altered.
+pub fn count_altered(q: Request, v: Verdict, sound: &Page, altered: &Page, tally: &mut Tally) {
     let number = v.of_library;
-    count_limits(q, v.total, number, tally);
+    count_limits(q, altered, v.total, number, tally);
+    count_premiums(sound, altered, number, tally);
     if number == 2 {
         add(tally, REFUSED_IMAGES, 1);
     } else {

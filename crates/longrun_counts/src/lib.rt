@@ -1,5 +1,7 @@
 // What the long runs reach: counted call by call, and written as tables.
 mod counts;
+mod edges;
+mod limits;
 mod rows;
 mod tally;
 

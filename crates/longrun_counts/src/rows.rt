@@ -1,13 +1,23 @@
 // The tables that the program writes.
+use crate::edges::missed_edges;
+use crate::tally::ALTERED_HIGHEST_PREMIUM;
+use crate::tally::ALTERED_LEAST_PREMIUM;
+use crate::tally::ALTERED_PRICE;
 use crate::tally::CALLS;
 use crate::tally::COUNTS_OF_CONTRACT;
+use crate::tally::COUNTS_OF_OUTCOME;
 use crate::tally::DIFFERENCES;
 use crate::tally::FRESH;
+use crate::tally::HIGHEST_PREMIUM;
 use crate::tally::INVOICE_AMOUNT;
 use crate::tally::KIND_ROWS;
+use crate::tally::LAST_PAYMENT;
+use crate::tally::LEAST_PREMIUM;
+use crate::tally::LIMIT_BID_PRICE;
+use crate::tally::MARKET_BID_PRICE;
 use crate::tally::MOST_ENTRIES;
+use crate::tally::NOBODYS_PREMIUM;
 use crate::tally::NUMBERS;
-use crate::tally::OUTCOMES;
 use crate::tally::PAY_IN_AMOUNT;
 use crate::tally::REFUSED_IMAGES;
 use crate::tally::TAKE_OUT_AMOUNT;
@@ -18,10 +28,11 @@ use crate::tally::VALID_IMAGES;
 use crate::tally::at_limit;
 use crate::tally::counted;
 use crate::tally::of_contract;
+use crate::tally::of_outcome;
 use crate::tally::pair;
 use ledger_book::CONTRACTS;
-use ledger_book::LAST_OUTCOME;
 use ledger_book::MOST_AMOUNT;
+use ledger_book::MOST_PREMIUM;
 use ledger_book::MOST_TOTAL;
 use ledger_book::minus;
 use ledger_book::plus;
@@ -142,19 +153,38 @@ fn print_entries(tally: &Tally) {
         of_contract(1, 0),
         COUNTS_OF_CONTRACT,
     );
-    io::write_all(1, b"entries by outcome\n");
-    rows(tally, 1, LAST_OUTCOME + 1, plus(OUTCOMES, 1), 1);
+    io::write_all(
+        1,
+        b"entries by outcome (the last row: last part payments): all, by premium -5000, below 0, 0, above 0, 5000\n",
+    );
+    rows(
+        tally,
+        1,
+        LAST_PAYMENT + 1,
+        of_outcome(1, 0),
+        COUNTS_OF_OUTCOME,
+    );
     line(b"most entries in an answer: ", counted(tally, MOST_ENTRIES));
 }
 
 // ── Limits ──────────────────────────────────────────────────────────────────────────────────────
+
+// A number modulo 2^64, below 0 in its upper half.
+fn print_signed(value: u64) {
+    if value > 9223372036854775807 {
+        io::write_all(1, b"-");
+        io::print_decimal(1, minus(0, value));
+    } else {
+        io::print_decimal(1, value);
+    }
+}
 
 // The number before a limit, the limit and the next: calls, those accepted, those refused by the limit's number.
 fn limit_rows(tally: &Tally, limit: u64, value: u64) {
     for step in 0..3u64 {
         let place = at_limit(limit, step);
         io::write_all(1, b"  ");
-        io::print_decimal(1, minus(plus(value, step), 1));
+        print_signed(minus(plus(value, step), 1));
         row(tally, counted(tally, place), plus(place, 1), 2);
     }
 }
@@ -175,12 +205,63 @@ fn print_limits(tally: &Tally) {
     limit_rows(tally, TOTAL_BEFORE, MOST_TOTAL);
 }
 
+fn print_premiums(tally: &Tally) {
+    let least = minus(0, MOST_PREMIUM);
+    io::write_all(
+        1,
+        b"premium of a registration: calls, accepted, refused by 4\n",
+    );
+    limit_rows(tally, LEAST_PREMIUM, least);
+    limit_rows(tally, HIGHEST_PREMIUM, MOST_PREMIUM);
+    io::write_all(
+        1,
+        b"price + basis + premium of a limit bid: calls, accepted, refused by 10\n",
+    );
+    limit_rows(tally, LIMIT_BID_PRICE, 1);
+    io::write_all(
+        1,
+        b"price + basis + premium of a market bid: calls, accepted, refused by 10\n",
+    );
+    limit_rows(tally, MARKET_BID_PRICE, 1);
+}
+
+fn print_altered(tally: &Tally) {
+    let least = minus(0, MOST_PREMIUM);
+    io::write_all(
+        1,
+        b"premium put into an image: calls, accepted, refused by 2\n",
+    );
+    limit_rows(tally, ALTERED_LEAST_PREMIUM, least);
+    limit_rows(tally, ALTERED_HIGHEST_PREMIUM, MOST_PREMIUM);
+    io::write_all(
+        1,
+        b"price + basis + premium with one put in: calls, accepted, refused by 2\n",
+    );
+    limit_rows(tally, ALTERED_PRICE, 1);
+    io::write_all(
+        1,
+        b"premium put in where nobody has the receipt: calls, accepted, refused by 2\n",
+    );
+    row(
+        tally,
+        counted(tally, NOBODYS_PREMIUM),
+        plus(NOBODYS_PREMIUM, 1),
+        2,
+    );
+    line(
+        b"edges of premiums that no call reached: ",
+        missed_edges(tally),
+    );
+}
+
 // ── All ─────────────────────────────────────────────────────────────────────────────────────────
 
 pub fn print_all(tally: &Tally) {
     print_pairs(tally);
     print_entries(tally);
     print_limits(tally);
+    print_premiums(tally);
+    print_altered(tally);
     line(
         b"altered images refused by 2: ",
         counted(tally, REFUSED_IMAGES),

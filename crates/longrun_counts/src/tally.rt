@@ -13,12 +13,19 @@ pub const NUMBERS: u64 = LAST_NUMBER + 1;
 
 const PAIRS: u64 = 0;
 
-// Entries by outcome, from 1 on.
-pub const OUTCOMES: u64 = PAIRS + KIND_ROWS * NUMBERS;
+// Entries by outcome, from 1 on, and behind the last outcome the part payments that were a lot's last. Of each: all, and those of lots
+// with the least premium, one below 0, none, one above 0, the most.
+const OUTCOMES: u64 = PAIRS + KIND_ROWS * NUMBERS;
+
+pub const LAST_PAYMENT: u64 = LAST_OUTCOME + 1;
+
+pub const PREMIUM_CLASSES: u64 = 5;
+
+pub const COUNTS_OF_OUTCOME: u64 = PREMIUM_CLASSES + 1;
 
 // Of each contract: listings, bids, quotes, lots struck, and quotes that struck two lots or more, all accepted. Of these quotes: those with
 // two strikes at one price, those with strikes at different prices, and those with both.
-const CONTRACT_COUNTS: u64 = OUTCOMES + LAST_OUTCOME + 1;
+const CONTRACT_COUNTS: u64 = OUTCOMES + (LAST_PAYMENT + 1) * COUNTS_OF_OUTCOME;
 
 pub const LISTED: u64 = 0;
 
@@ -51,10 +58,29 @@ pub const TOTAL_AFTER: u64 = 3;
 
 pub const TOTAL_BEFORE: u64 = 4;
 
-const LIMIT_COUNT: u64 = 5;
+// The ends of the range of premiums, and one yuan for a tonne, the least that there can be to pay: in calls, and then in images with
+// another premium.
+pub const LEAST_PREMIUM: u64 = 5;
+
+pub const HIGHEST_PREMIUM: u64 = 6;
+
+pub const LIMIT_BID_PRICE: u64 = 7;
+
+pub const MARKET_BID_PRICE: u64 = 8;
+
+pub const ALTERED_LEAST_PREMIUM: u64 = 9;
+
+pub const ALTERED_HIGHEST_PREMIUM: u64 = 10;
+
+pub const ALTERED_PRICE: u64 = 11;
+
+pub const LIMIT_COUNT: u64 = 12;
+
+// Images with a premium in the record of a receipt that nobody has: the same three counts.
+pub const NOBODYS_PREMIUM: u64 = LIMITS + LIMIT_COUNT * 9;
 
 // Single counts.
-pub const CALLS: u64 = LIMITS + LIMIT_COUNT * 9;
+pub const CALLS: u64 = NOBODYS_PREMIUM + 3;
 
 pub const DIFFERENCES: u64 = CALLS + 1;
 
@@ -80,6 +106,10 @@ pub fn empty_tally() -> Tally {
 
 pub fn pair(kind: u64, number: u64) -> u64 {
     plus(PAIRS, plus(product(kind, NUMBERS), number))
+}
+
+pub fn of_outcome(outcome: u64, what: u64) -> u64 {
+    plus(OUTCOMES, plus(product(outcome, COUNTS_OF_OUTCOME), what))
 }
 
 pub fn of_contract(contract: u64, what: u64) -> u64 {

@@ -1,4 +1,4 @@
-// Parties, prices and weights, mostly such as carry a lot on, now and then at the end of a range or just beyond it.
+// Parties, prices, premiums and weights, mostly such as carry a lot on, now and then at the end of a range or just beyond it.
 use crate::draws::below;
 use crate::draws::beside;
 use crate::draws::between;
@@ -8,6 +8,7 @@ use ledger_book::DAY;
 use ledger_book::LEAST_WEIGHT;
 use ledger_book::MOST_BASIS;
 use ledger_book::MOST_DAYS;
+use ledger_book::MOST_PREMIUM;
 use ledger_book::MOST_PRICE;
 use ledger_book::MOST_WEIGHT;
 use ledger_book::PRICE_STEP;
@@ -69,10 +70,30 @@ pub fn price_beside(seed: &mut u64, standing: u64) -> u64 {
     minus(plus(standing, steps(below(seed, 6))), PRICE_STEP)
 }
 
-// ── Basis, days and weight ────────────────────────────────────────────────────────────────────────────
+// ── Basis and premium ───────────────────────────────────────────────────────────────────────────
 
-// Now and then an end of the range or one beyond it, or far below 0.
-pub fn some_basis(seed: &mut u64, contract: u64) -> u64 {
+// Often an end of the range or a number beside it, or none; else any.
+pub fn some_premium(seed: &mut u64) -> u64 {
+    let draw = below(seed, 100);
+    if draw < 24 {
+        return beside(seed, minus(0, MOST_PREMIUM));
+    }
+    if draw < 48 {
+        return beside(seed, MOST_PREMIUM);
+    }
+    if draw < 60 {
+        return 0;
+    }
+    minus(below(seed, 2 * MOST_PREMIUM + 1), MOST_PREMIUM)
+}
+
+// Price, basis or premium, where the other two are given: such that a tonne costs nothing, or one or two yuan.
+pub fn to_nothing(seed: &mut u64, one: u64, other: u64) -> u64 {
+    minus(below(seed, 3), plus(one, other))
+}
+
+// Now and then an end of the range or one beyond it, or far below 0. At low prices it makes up for the premium, which may be higher.
+pub fn some_basis(seed: &mut u64, contract: u64, premium: u64) -> u64 {
     let draw = below(seed, 100);
     if draw < 2 {
         return plus(MOST_BASIS, draw);
@@ -84,10 +105,12 @@ pub fn some_basis(seed: &mut u64, contract: u64) -> u64 {
         return minus(below(seed, MOST_BASIS), MOST_BASIS);
     }
     if contract == CHEAP_CONTRACT {
-        return minus(below(seed, 80), 50);
+        return minus(below(seed, 80), plus(50, premium));
     }
     minus(below(seed, 801), 400)
 }
+
+// ── Days and weight ─────────────────────────────────────────────────────────────────────────────
 
 // Now and then one day too many.
 pub fn some_days(seed: &mut u64) -> u64 {

@@ -1,4 +1,4 @@
-// What the long runs draw from a seed: numbers, parties, prices and weights, pay-ins and take-outs.
+// What the long runs draw from a seed: numbers, parties, prices, premiums and weights, pay-ins and take-outs.
 mod choices;
 mod draws;
 mod money;
@@ -11,7 +11,9 @@ pub use choices::price_edge;
 pub use choices::some_basis;
 pub use choices::some_contract;
 pub use choices::some_days;
+pub use choices::some_premium;
 pub use choices::some_weight;
+pub use choices::to_nothing;
 pub use draws::below;
 pub use draws::beside;
 pub use draws::between;

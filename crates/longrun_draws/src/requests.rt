@@ -3,13 +3,14 @@ use ledger_book::ANSWER_LENGTH;
 use ledger_book::BASIS;
 use ledger_book::CALL_LENGTH;
 use ledger_book::IMAGE_LENGTH;
+use ledger_book::PREMIUM;
 use ledger_book::PRICE;
 use ledger_book::Page;
 use ledger_book::WEIGHT;
 use ledger_book::full_payment;
 use ledger_book::page_cell;
 
-// A call by its fields, with the lengths of the buffers that it lends.
+// A call by its fields, with the lengths of the buffers that it lends. `basis` is a premium where a receipt is registered.
 pub struct Request {
     pub kind: u64,
     pub account: u64,
@@ -59,6 +60,7 @@ pub fn full_of(image: &Page, lot: u64) -> u64 {
     full_payment(
         page_cell(image, PRICE, lot),
         page_cell(image, BASIS, lot),
+        page_cell(image, PREMIUM, lot),
         page_cell(image, WEIGHT, lot),
     )
 }

@@ -9,6 +9,7 @@ use ledger_book::CONTRACTS;
 use ledger_book::FREE;
 use ledger_book::FROZEN;
 use ledger_book::OWNER;
+use ledger_book::PREMIUM;
 use ledger_book::Page;
 use ledger_book::RECEIPT_COLUMNS_END;
 use ledger_book::RECEIPTS;
@@ -23,8 +24,12 @@ use longrun_draws::below;
 use longrun_draws::between;
 use longrun_draws::percent;
 
+// Any field; the premium more often, for few lots have a price near which it decides.
 fn damage_receipt(seed: &mut u64, image: &mut Page, lot: u64) {
-    let column = between(seed, OWNER, RECEIPT_COLUMNS_END - 1);
+    let mut column = between(seed, OWNER, RECEIPT_COLUMNS_END - 1);
+    if percent(seed, 20) {
+        column = PREMIUM;
+    }
     let limit = limit_in_receipt(seed, image, lot, column);
     displace(seed, image, column, lot, limit);
     if percent(seed, 60) {

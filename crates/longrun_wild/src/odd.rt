@@ -12,6 +12,7 @@ use ledger_book::LEAST_WEIGHT;
 use ledger_book::MOST_AMOUNT;
 use ledger_book::MOST_BASIS;
 use ledger_book::MOST_DAYS;
+use ledger_book::MOST_PREMIUM;
 use ledger_book::MOST_PRICE;
 use ledger_book::MOST_TOTAL;
 use ledger_book::MOST_WEIGHT;
@@ -27,7 +28,7 @@ use longrun_draws::between;
 use longrun_draws::percent;
 use longrun_draws::word;
 
-const EDGE_COUNT: usize = 28;
+const EDGE_COUNT: usize = 29;
 
 // Ends of ranges, the last kind, and ends of number types.
 const EDGES: [u64; EDGE_COUNT] = [
@@ -41,6 +42,7 @@ const EDGES: [u64; EDGE_COUNT] = [
     RECEIPTS,
     255,
     LEAST_WEIGHT,
+    MOST_PREMIUM,
     LAST_DAY,
     LAST_DUE,
     MOST_BASIS,

@@ -12,15 +12,18 @@ use ledger_book::DUE;
 use ledger_book::LAST_DAY;
 use ledger_book::LAST_DUE;
 use ledger_book::LEAST_WEIGHT;
+use ledger_book::MOST_PREMIUM;
 use ledger_book::MOST_TOTAL;
 use ledger_book::MOST_WEIGHT;
 use ledger_book::OWNER;
 use ledger_book::PAID;
 use ledger_book::PENDING;
+use ledger_book::PREMIUM;
 use ledger_book::PRICE;
 use ledger_book::Page;
 use ledger_book::SELLER;
 use ledger_book::WEIGHT;
+use ledger_book::is_premium;
 use ledger_book::minus;
 use ledger_book::page_cell;
 use ledger_book::plus;
@@ -29,9 +32,12 @@ use ledger_book::rest_payment;
 use ledger_book::set_page_cell;
 use ledger_book::share;
 use longrun_draws::below;
+use longrun_draws::beside;
 use longrun_draws::between;
 use longrun_draws::full_of;
+use longrun_draws::percent;
 use longrun_draws::price_edge;
+use longrun_draws::to_nothing;
 use longrun_draws::word;
 
 // The first or the last of a range, or the number just outside it there.
@@ -43,11 +49,24 @@ fn range_edge(seed: &mut u64, first: u64, last: u64) -> u64 {
     plus(last, minus(draw, 2))
 }
 
+// What leaves next to nothing to pay for a tonne, mostly where that is a premium; else an end of the range or a number beside it.
+fn premium_edge(seed: &mut u64, price: u64, basis: u64) -> u64 {
+    let least = to_nothing(seed, price, basis) % 4294967296;
+    if is_premium(least) & percent(seed, 80) {
+        return least;
+    }
+    if percent(seed, 50) {
+        return beside(seed, minus(0, MOST_PREMIUM));
+    }
+    beside(seed, MOST_PREMIUM)
+}
+
 // A value at the field's own limit or just beyond, which other fields of the receipt may set.
 pub fn limit_in_receipt(seed: &mut u64, image: &Page, lot: u64, column: u64) -> u64 {
     let beyond = below(seed, 2);
     let full = full_of(image, lot);
     let confirmed = page_cell(image, CONFIRMED, lot);
+    let price = page_cell(image, PRICE, lot);
     match column {
         OWNER => range_edge(seed, 1, ACCOUNTS),
         SELLER => page_cell(image, BUYER, lot),
@@ -55,7 +74,8 @@ pub fn limit_in_receipt(seed: &mut u64, image: &Page, lot: u64, column: u64) -> 
         CONTRACT => range_edge(seed, 1, CONTRACTS),
         DUE => range_edge(seed, 1, LAST_DUE),
         WEIGHT => range_edge(seed, LEAST_WEIGHT, MOST_WEIGHT),
-        BASIS => minus(beyond, page_cell(image, PRICE, lot)),
+        BASIS => to_nothing(seed, price, page_cell(image, PREMIUM, lot)),
+        PREMIUM => premium_edge(seed, price, page_cell(image, BASIS, lot)),
         PRICE => price_edge(seed),
         PENDING => plus(minus(full, confirmed), beyond),
         CONFIRMED => minus(plus(full, beyond), plus(page_cell(image, PENDING, lot), 1)),

@@ -4,10 +4,10 @@ use Rattle.longrun_counts.proofs.counts.count_entries.Statement.{statem
 use Rattle.longrun_counts.proofs.counts.count_entries.Tie as tie
 
 abbrev Inv-loop : tie.InvT-loop
-Inv-loop answer tally₀ entries k₀ tally k = Unit {0}
+Inv-loop image answer tally₀ entries k₀ tally k = Unit {0}
 
 abbrev μ-loop : tie.MeasureT-loop
-μ-loop answer tally₀ entries k₀ tally k = left k
+μ-loop image answer tally₀ entries k₀ tally k = left k
 
 entries-in-requires : tie.Need-entries-in-requires Inv-loop μ-loop
 entries-in-requires c κs = search needs
@@ -21,14 +21,8 @@ set-requires c κs = search needs
 loop-holds : tie.Need-loop-holds Inv-loop μ-loop
 loop-holds c = search needs
 
-page-cell-requires : tie.Need-page-cell-requires Inv-loop μ-loop
-page-cell-requires c κs = search needs
-
-plus-requires : tie.Need-plus-requires Inv-loop μ-loop
-plus-requires c κs = search needs
-
-add-requires : tie.Need-add-requires Inv-loop μ-loop
-add-requires c κs = search needs
+count-entry-requires : tie.Need-count-entry-requires Inv-loop μ-loop
+count-entry-requires c κs = search needs
 
 add-k : tie.Need-add-k Inv-loop μ-loop
 add-k c = search needs
@@ -52,9 +46,7 @@ count-entries-spec =
     counted-requires
     set-requires
     loop-holds
-    page-cell-requires
-    plus-requires
-    add-requires
+    count-entry-requires
     add-k
     loop-less
     loop-again

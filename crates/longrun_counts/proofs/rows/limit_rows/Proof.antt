@@ -27,8 +27,8 @@ plus-requires c κs = search needs
 minus-requires : tie.Need-minus-requires Inv-loop μ-loop
 minus-requires c κs = search needs
 
-print-decimal-requires : tie.Need-print-decimal-requires Inv-loop μ-loop
-print-decimal-requires c κs = search needs
+print-signed-requires : tie.Need-print-signed-requires Inv-loop μ-loop
+print-signed-requires c κs = search needs
 
 counted-requires : tie.Need-counted-requires Inv-loop μ-loop
 counted-requires c κs = search needs
@@ -63,7 +63,7 @@ limit-rows-spec =
     write-all-requires
     plus-requires
     minus-requires
-    print-decimal-requires
+    print-signed-requires
     counted-requires
     plus-requires-2
     row-requires
