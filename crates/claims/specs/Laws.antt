@@ -6,4 +6,5 @@ pub mod Kept
 pub mod Values
 pub mod Demand
 pub mod Quotes
+pub mod Premiums
 pub mod RoundTrips

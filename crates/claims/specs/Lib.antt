@@ -8,4 +8,5 @@ pub mod Replay
 pub mod Examples
 pub mod Traps
 pub mod StrikesListed
+pub mod Premiums
 pub mod Laws

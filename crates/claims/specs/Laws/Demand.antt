@@ -74,7 +74,7 @@ module _ (image : List ℕ) (c : Call) (ok : Zero image c) where
   new-valid : validImage (encode (done .zone)) ≡ true
   new-valid = valid-encode (done .zone) (kept .sized) (kept .valid)
 
-  new-zone : decode (encode (done .zone)) ≡ done .zone
+  pub new-zone : decode (encode (done .zone)) ≡ done .zone
   new-zone = decode-encode (done .zone) (kept .sized) (kept .valid)
 
   pub read-back : (answer : List ℕ) → entriesIn (acceptedAnswer (done .zone) (done .entries) answer) ≡ done .entries
