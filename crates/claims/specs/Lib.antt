@@ -9,4 +9,5 @@ pub mod Examples
 pub mod Traps
 pub mod StrikesListed
 pub mod Premiums
+pub mod PremiumTrades
 pub mod Laws

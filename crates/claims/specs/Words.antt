@@ -40,6 +40,9 @@ registers account receipt weight = registersGraded account receipt weight (pos 0
 abbrev pub lists : ℕ → ℕ → ℕ → ℕ → ℤ → Call
 lists account receipt contract days basis = call 4 account receipt contract days 0 basis 0
 
+abbrev pub withdrawsListing : ℕ → ℕ → Call
+withdrawsListing account receipt = simpleCall 5 account receipt 0
+
 abbrev pub bids : ℕ → ℕ → ℕ → Call
 bids account receipt price = simpleCall 6 account receipt price
 
