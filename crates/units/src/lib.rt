@@ -133,12 +133,7 @@ pub fn is_payable(price: YuanPerTonne, basis: Basis, premium: Premium) -> bool
     1 <= unit_price(price, basis, premium)
 }
 
-pub fn full_payment(
-    price: YuanPerTonne,
-    basis: Basis,
-    premium: Premium,
-    weight: Kilograms,
-) -> Fen
+pub fn full_payment(price: YuanPerTonne, basis: Basis, premium: Premium, weight: Kilograms) -> Fen
     requires { ⌜ weight .0 ≤ mostWeight ⌝ }
     ensures { λ r. ⌜ r ≡ fullPayment price basis premium weight ⌝ }
 {

@@ -205,9 +205,27 @@ pub fn record_of(r: Receipt) -> Record
     let lot = r.lot;
     let none = no_invoices();
     match lot {
-        Lot::Idle => flat_record(owner, weight, premium, STATE_IDLE, no_listing(0), no_bid(0), 0, none),
+        Lot::Idle => flat_record(
+            owner,
+            weight,
+            premium,
+            STATE_IDLE,
+            no_listing(0),
+            no_bid(0),
+            0,
+            none,
+        ),
         Lot::Listed(l) => flat_record(owner, weight, premium, STATE_LISTED, l, no_bid(0), 0, none),
-        Lot::BidStands(l, b) => flat_record(owner, weight, premium, STATE_BID_STANDS, l, b, 0, none),
+        Lot::BidStands(l, b) => flat_record(
+            owner,
+            weight,
+            premium,
+            STATE_BID_STANDS,
+            l,
+            b,
+            0,
+            none,
+        ),
         Lot::Struck(t) => trade_record(owner, weight, premium, STATE_STRUCK, t, none),
         Lot::Lodged(t) => trade_record(owner, weight, premium, STATE_LODGED, t, none),
         Lot::Settled(t) => trade_record(owner, weight, premium, STATE_SETTLED, t, none),
