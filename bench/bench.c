@@ -8,7 +8,7 @@
  * bench LEDGER ROW   one round of one row, to count its instructions: LEDGER is library, gcc or clang
  *
  * A row is a call, the image that it finds and what it returns. A new one is a line of `rows`, and a function that
- * fills its image if none of the three here will do. An entry of another form is a field more of `ledgers`, and is
+ * fills its image if none of the four here will do. An entry of another form is a field more of `ledgers`, and is
  * called in one_round.
  */
 #define _POSIX_C_SOURCE 200809L
@@ -25,7 +25,7 @@ typedef uint32_t ledger_call(
 ledger_call plain_gcc_call, plain_clang_call;
 
 enum { IMAGES = 16, ROUNDS = 1000, SWEEPS = 10, DAY = 5, PRICE = 15000, WEIGHT = 41237, CONFIRMED = 1000, PAID = 100 };
-enum { LOT = 3, BIDDER = 90 };
+enum { LOT = 3, BIDDER = 90, LAST = CRZ_RECEIPT_COUNT };
 
 /* the library comes first */
 static const struct ledger {
@@ -117,6 +117,15 @@ static void busy(uint8_t *image)
         put_receipt(image, number, (number - 1) % 8);
 }
 
+/* the same, but LAST is not registered */
+static void busy_but_last(uint8_t *image)
+{
+    unsigned number;
+    fill_accounts(image);
+    for (number = 1; number < LAST; number++)
+        put_receipt(image, number, (number - 1) % 8);
+}
+
 /* one receipt listed and the money for one bid on it in one account; all else is empty */
 static void idle(uint8_t *image)
 {
@@ -155,6 +164,8 @@ static const struct row rows[] = {
     {"quote, 128 strikes", bid_for, CRZ_KIND_QUOTE, 0, 0, 1, PRICE, CRZ_NUMBER_ACCEPTED},
     {"pay in, busy", busy, CRZ_KIND_PAY_IN, 1, 0, 0, 100, CRZ_NUMBER_ACCEPTED},
     {"pay in, idle", idle, CRZ_KIND_PAY_IN, 1, 0, 0, 100, CRZ_NUMBER_ACCEPTED},
+    {"register, busy", busy_but_last, CRZ_KIND_REGISTER, 1, LAST, 0, 0, CRZ_NUMBER_ACCEPTED},
+    {"register, idle", idle, CRZ_KIND_REGISTER, 1, LAST, 0, 0, CRZ_NUMBER_ACCEPTED},
     {"limit bid, busy", busy, CRZ_KIND_LIMIT_BID, BIDDER, LOT, 0, PRICE + 5, CRZ_NUMBER_ACCEPTED},
     {"limit bid, idle", idle, CRZ_KIND_LIMIT_BID, BIDDER, LOT, 0, PRICE + 5, CRZ_NUMBER_ACCEPTED},
     {"morning close, busy", busy, CRZ_KIND_MORNING_CLOSE, 0, 0, 0, 0, CRZ_NUMBER_ACCEPTED},
@@ -181,6 +192,8 @@ static void prepare(const struct row *row, uint8_t *image, uint8_t *call)
     row->fill(image);
     crz_put_plain_call(call, row->kind, row->account, row->receipt, row->amount);
     call[CRZ_CALL_CONTRACT] = row->contract;
+    if (row->kind == CRZ_KIND_REGISTER)
+        crz_put_register(call, row->account, row->receipt, WEIGHT, CRZ_PREMIUM_LEAST);
 }
 
 static uint8_t images[IMAGES][CRZ_IMAGE_LENGTH];
