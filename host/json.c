@@ -71,6 +71,14 @@ void json_hash(const char *name, const struct hash *hash)
     json_words(name, words);
 }
 
+void json_signed_if(int is_there, const char *name, int64_t number)
+{
+    if (is_there)
+        json_signed(name, number);
+    else
+        json_words(name, NULL);
+}
+
 void json_if(int is_there, const char *name, uint64_t number)
 {
     if (is_there)
@@ -199,10 +207,7 @@ static void put_lot(uint32_t lot, const struct crz_receipt_fields *r)
     json_if(r->buyer != 0, "buyer", r->buyer);
     json_if(r->contract != 0, "contract", r->contract);
     json_if(r->contract != 0, "days", r->days);
-    if (r->contract != 0)
-        json_signed("basis_yuan", r->basis);
-    else
-        json_words("basis_yuan", NULL);
+    json_signed_if(r->contract != 0, "basis_yuan", r->basis);
     json_if(r->price != 0, "price_yuan", r->price);
     json_if(r->due != 0, "due", r->due);
     json_if(r->price != 0, "full_fen", crz_full_payment(r));

@@ -15,6 +15,7 @@ void json_close(void);
 
 /* The number, or null where it is not there. */
 void json_if(int is_there, const char *name, uint64_t number);
+void json_signed_if(int is_there, const char *name, int64_t number);
 
 /* A line of the journal; `found` is the image that a call found, NULL where it is not known. */
 void json_line(const struct line *line, const uint8_t *found);

@@ -11,7 +11,8 @@
 struct statement {
     uint32_t account;
     int json;
-    uint64_t at_start; /* free and frozen money of an imported image */
+    const uint8_t *image; /* the newest; a receipt's premium is there whatever became of its lot */
+    uint64_t at_start;    /* free and frozen money of an imported image */
     uint64_t pay_ins, take_outs, received, passed;
 };
 
@@ -22,17 +23,27 @@ struct movement {
     uint32_t lot, other; /* 0 where the movement has none */
     int in;
     uint64_t fen;
+    int graded; /* a part of a full payment, which counts the receipt's premium */
+    int32_t premium;
 };
+
+/* What a movement is of: with the premium where it counts. */
+static void movement_words(char *words, size_t length, const struct movement *m)
+{
+    int used = snprintf(words, length, "%s", m->what);
+    if (m->lot != 0)
+        used += snprintf(
+            words + used, length - (size_t)used, ", lot %u, %s account %u", m->lot, m->in ? "from" : "to", m->other);
+    if (m->graded)
+        snprintf(words + used, length - (size_t)used, ", premium %s", grouped_signed(m->premium).text);
+}
 
 static void print_movement(const struct movement *m)
 {
-    char what[96], fen[40];
-    if (m->lot == 0)
-        snprintf(what, sizeof what, "%s", m->what);
-    else
-        snprintf(what, sizeof what, "%s, lot %u, %s account %u", m->what, m->lot, m->in ? "from" : "to", m->other);
+    char what[128], fen[40];
+    movement_words(what, sizeof what, m);
     snprintf(fen, sizeof fen, "%c%s", m->in ? '+' : '-', grouped(m->fen).text);
-    printf("  %-8" PRIu64 " %s  %-40s %22s\n", m->line->sequence, m->line->time, what, fen);
+    printf("  %-8" PRIu64 " %s  %-52s %22s\n", m->line->sequence, m->line->time, what, fen);
 }
 
 static void json_movement(const struct movement *m)
@@ -43,6 +54,7 @@ static void json_movement(const struct movement *m)
     json_words("what", m->what);
     json_if(m->lot != 0, "lot", m->lot);
     json_if(m->other != 0, "other_account", m->other);
+    json_signed_if(m->graded, "premium_yuan", m->premium);
     json_if(m->in, "in_fen", m->fen);
     json_if(!m->in, "out_fen", m->fen);
     json_close();
@@ -56,17 +68,23 @@ static void show_movement(const struct statement *s, const struct movement *m)
         print_movement(m);
 }
 
+/* Outcomes that pay a part of a full payment. */
+static int pays(uint32_t outcome)
+{
+    return outcome == CRZ_OUTCOME_FIRST_PAID || outcome == CRZ_OUTCOME_PART_PAID;
+}
+
 /* Outcomes that pass money from one account to another. */
 static int passes(uint32_t outcome)
 {
-    return outcome == CRZ_OUTCOME_FIRST_PAID || outcome == CRZ_OUTCOME_PART_PAID || outcome == CRZ_OUTCOME_BUYER_DEFAULT
-           || outcome == CRZ_OUTCOME_PENALTY;
+    return pays(outcome) || outcome == CRZ_OUTCOME_BUYER_DEFAULT || outcome == CRZ_OUTCOME_PENALTY;
 }
 
 static void add_transfer(struct statement *s, const struct line *line, const struct crz_entry_fields *e)
 {
     int in = e->to == s->account;
-    struct movement m = {line, outcome_of(e->outcome)->word, e->lot, in ? e->from : e->to, in, e->number};
+    struct movement m = {line, outcome_of(e->outcome)->word, e->lot, in ? e->from : e->to, in, e->number,
+        pays(e->outcome), crz_get_receipt(s->image, e->lot).premium};
     if (!passes(e->outcome) || (!in && e->from != s->account))
         return;
     *(in ? &s->received : &s->passed) += e->number;
@@ -86,7 +104,7 @@ static void add_transfers(struct statement *s, const struct line *line)
 static void add_payment(struct statement *s, const struct line *line, const struct crz_call_fields *call)
 {
     int in = call->kind == CRZ_KIND_PAY_IN;
-    struct movement m = {line, kind_of(call->kind)->word, 0, 0, in, call->amount};
+    struct movement m = {line, kind_of(call->kind)->word, 0, 0, in, call->amount, 0, 0};
     *(in ? &s->pay_ins : &s->take_outs) += call->amount;
     show_movement(s, &m);
 }
@@ -110,12 +128,14 @@ static int add_line(void *context, const struct line *line)
 static void show_held(const struct statement *s, uint32_t lot, const struct crz_receipt_fields *r)
 {
     if (!s->json) {
-        printf("  held for lot %u, %s: %s fen\n", lot, state_words[r->state], grouped(crz_held_money(r)).text);
+        printf("  held for lot %u, %s, premium %s: %s fen\n", lot, state_words[r->state],
+            grouped_signed(r->premium).text, grouped(crz_held_money(r)).text);
         return;
     }
     json_open("held");
     json_number("lot", lot);
     json_words("state", state_words[r->state]);
+    json_signed("premium_yuan", r->premium);
     json_number("fen", crz_held_money(r));
     json_close();
 }
@@ -159,12 +179,12 @@ static void print_head(const struct statement *s, const struct newest *newest)
 {
     printf("account %u after sequence %" PRIu64 ", day %s, %s\n", s->account, newest->last.sequence,
         grouped(crz_get_day(newest->kept.image)).text, phase_words(crz_get_phase(newest->kept.image)));
-    printf("  %-8s %-24s  %-40s %22s\n", "sequence", "time (UTC)", "what", "fen");
+    printf("  %-8s %-24s  %-52s %22s\n", "sequence", "time (UTC)", "what", "fen");
 }
 
 enum status print_statement(struct store *store, const struct newest *newest, uint32_t account, int json)
 {
-    struct statement s = {.account = account, .json = json};
+    struct statement s = {.account = account, .json = json, .image = newest->kept.image};
     struct crz_account_fields has = crz_get_account(newest->kept.image, account);
     if (!json)
         print_head(&s, newest);

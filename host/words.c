@@ -16,7 +16,7 @@ const struct field_words fields[FIELDS] = {
         CRZ_BASIS_MOST, 1},
     [FIELD_KILOGRAMS] = {"kilograms", "kilograms", CRZ_CALL_WEIGHT, 4, 0, UINT32_MAX, CRZ_WEIGHT_LEAST, CRZ_WEIGHT_MOST,
         1},
-    [FIELD_PREMIUM] = {"premium-yuan", "premium_yuan", CRZ_CALL_BASIS, 4, INT32_MIN, INT32_MAX, CRZ_PREMIUM_LEAST,
+    [FIELD_PREMIUM] = {"premium", "premium_yuan", CRZ_CALL_BASIS, 4, INT32_MIN, INT32_MAX, CRZ_PREMIUM_LEAST,
         CRZ_PREMIUM_MOST, 1},
 };
 
@@ -240,7 +240,7 @@ void print_ranges(unsigned takes)
     for (unsigned f = 0; f < FIELDS; f++) {
         if (!(takes & BIT(f)))
             continue;
-        printf("  %-12s  %s to %s", fields[f].word, grouped_signed(fields[f].least).text,
+        printf("  %-10s  %s to %s", fields[f].word, grouped_signed(fields[f].least).text,
             grouped_signed(fields[f].most).text);
         if (fields[f].step > 1)
             printf(" in steps of %s", grouped_signed(fields[f].step).text);

@@ -18,11 +18,11 @@ done
 ends 0 "crz new FILE" help --help
 ends 0 "crz new FILE" help help
 ends 0 "crz 2.0.0" help --version
-ends 0 "kilograms     1,000 to 60,000" help call
-ends 0 "register account N receipt N kilograms N [premium-yuan N]" help register
-ends 0 "premium-yuan  -5,000 to 5,000; 0 where it is left out" help register
+ends 0 "kilograms   1,000 to 60,000" help call
+ends 0 "register account N receipt N kilograms N [premium N]" help register
+ends 0 "premium     -5,000 to 5,000; 0 where it is left out" help register
 ends 0 "limit-bid account N receipt N yuan N" help limit-bid
-ends 0 "yuan          5 to 200,000 in steps of 5" help limit-bid
+ends 0 "yuan        5 to 200,000 in steps of 5" help limit-bid
 ends 2 "'limt-bid' is no command and no kind of call; did you mean 'limit-bid'?" help limt-bid
 ends 0 "limit-bid account N receipt N yuan N" help call
 ends 0 "any account but the seller" help call
@@ -70,20 +70,20 @@ ends 2 "grouped in another way" call zone pay-in account 3 fen 1234,567
 ends 2 "grouped in another way" call zone pay-in account 3 fen ,123
 ends 2 "grouped in another way" call zone pay-in account 3 fen 0,005
 ends 2 "grouped in another way" call zone pay-in account 3 fen 000,123
-ends 2 "register: 'premium' is no field; did you mean 'premium-yuan'?" \
-    call zone register account 3 receipt 1 kilograms 41237 premium 5
+ends 2 "register: 'premiums' is no field; did you mean 'premium'?" \
+    call zone register account 3 receipt 1 kilograms 41237 premiums 5
 ends 2 "list: 'basis' is no field; did you mean 'basis-yuan'?" \
     call zone list account 3 receipt 1 contract 1 days 0 basis 5
-ends 2 "register: 'kilograms' is missing" call zone register account 3 receipt 1 premium-yuan 5
-ends 2 "register: 'premium-yuan' has no value" call zone register account 3 receipt 1 kilograms 41237 premium-yuan
-ends 2 "register: 'premium-yuan' is there twice" \
-    call zone register account 3 receipt 1 kilograms 41237 premium-yuan 5 premium-yuan 5
+ends 2 "register: 'kilograms' is missing" call zone register account 3 receipt 1 premium 5
+ends 2 "register: 'premium' has no value" call zone register account 3 receipt 1 kilograms 41237 premium
+ends 2 "register: 'premium' is there twice" \
+    call zone register account 3 receipt 1 kilograms 41237 premium 5 premium 5
 ends 2 "register: 'basis-yuan' is not one of its fields" call zone register account 3 receipt 1 kilograms 41237 basis-yuan 5
-ends 2 "list: 'premium-yuan' is not one of its fields" \
-    call zone list account 3 receipt 1 contract 1 days 0 basis-yuan 0 premium-yuan 5
-ends 2 "premium-yuan: 2,147,483,648 does not fit; it takes -5,000 to 5,000" \
-    call zone register account 3 receipt 1 kilograms 41237 premium-yuan 2147483648
-ends 2 "premium-yuan: '+5' is not a whole number" call zone register account 3 receipt 1 kilograms 41237 premium-yuan +5
+ends 2 "list: 'premium' is not one of its fields" \
+    call zone list account 3 receipt 1 contract 1 days 0 basis-yuan 0 premium 5
+ends 2 "premium: 2,147,483,648 does not fit; it takes -5,000 to 5,000" \
+    call zone register account 3 receipt 1 kilograms 41237 premium 2147483648
+ends 2 "premium: '+5' is not a whole number" call zone register account 3 receipt 1 kilograms 41237 premium +5
 ends 2 "account: 256 does not fit; it takes 1 to 96" call zone pay-in account 256 fen 1
 ends 2 "does not fit" call zone pay-in account 3 fen -1
 ends 2 "is too large" call zone pay-in account 3 fen 99999999999999999999
@@ -145,18 +145,18 @@ ends 0 "replay: 1,001 calls compared, 1,000 accepted and 1 refused" verify rich.
 
 # ── Premiums ────────────────────────────────────────────────────────────────────────────────────────
 "$crz" new premium >/dev/null
-ends 1 "refused 4, sequence 1: a field is out of range: premium-yuan 5,001 is not in -5,000 to 5,000" \
-    call premium register account 1 receipt 1 kilograms 1000 premium-yuan 5001
-ends 1 "a field is out of range: kilograms 999 is not in 1,000 to 60,000; premium-yuan -5,001 is not in -5,000 to 5,000" \
-    call premium register account 1 receipt 1 kilograms 999 premium-yuan -5,001
+ends 1 "refused 4, sequence 1: a field is out of range: premium 5,001 is not in -5,000 to 5,000" \
+    call premium register account 1 receipt 1 kilograms 1000 premium 5001
+ends 1 "a field is out of range: kilograms 999 is not in 1,000 to 60,000; premium -5,001 is not in -5,000 to 5,000" \
+    call premium register account 1 receipt 1 kilograms 999 premium -5,001
 holds "a refused register leaves no receipt" test -z "$("$crz" show premium | grep lot)"
 cat >script <<'END'
 pay-in account 4 fen 5,001,000
 pay-in account 5 fen 5,001,000
-register account 1 receipt 1 kilograms 1000 premium-yuan -5
+register account 1 receipt 1 kilograms 1000 premium -5
 register account 1 receipt 2 kilograms 41,237
-register account 1 receipt 3 kilograms 1,000 premium-yuan 5,000
-register premium-yuan -5,000 kilograms 1,000 receipt 128 account 1
+register account 1 receipt 3 kilograms 1,000 premium 5,000
+register premium -5,000 kilograms 1,000 receipt 128 account 1
 list account 1 receipt 1 contract 1 days 0 basis-yuan 0
 list account 1 receipt 3 contract 1 days 0 basis-yuan -5,004
 END
@@ -165,8 +165,8 @@ ends 0 "lot 1: listed, owner 1, 1,000 kilograms, premium -5 yuan per tonne, sell
 ends 0 "lot 2: idle, owner 1, 41,237 kilograms, premium 0 yuan per tonne" show premium
 ends 0 "lot 3: listed, owner 1, 1,000 kilograms, premium 5,000 yuan per tonne, seller 1" show premium
 ends 0 "lot 128: idle, owner 1, 1,000 kilograms, premium -5,000 yuan per tonne" show premium
-ends 0 "  register account 1 receipt 1 kilograms 1,000 premium-yuan -5" log premium
-ends 0 "  register account 1 receipt 2 kilograms 41,237 premium-yuan 0" log premium
+ends 0 "  register account 1 receipt 1 kilograms 1,000 premium -5" log premium
+ends 0 "  register account 1 receipt 2 kilograms 41,237 premium 0" log premium
 ends 1 "refused 10" call premium limit-bid account 4 receipt 1 yuan 5
 ends 1 "price 5, basis 0 and premium -5 make 0 yuan per tonne, at least 1 is needed" \
     call premium limit-bid account 4 receipt 1 yuan 5
@@ -182,7 +182,7 @@ ends 0 "lot 1, due day 1: struck, full payment 500 fen, seller 1 must lodge" due
 printf 'lodge account 1 receipt 1\nmorning-close\n' >script
 ends 0 "lot 1: settled, buyer 4, seller 1, 500 fen" play premium script
 ends 0 "lot 1: settled, owner 4, 1,000 kilograms, premium -5 yuan per tonne, seller 1, buyer 4" show premium
-ends 0 "held for lot 1, settled: 500 fen" statement premium 4
+ends 0 "held for lot 1, settled, premium -5: 500 fen" statement premium 4
 cat >script <<'END'
 first-payment account 1 receipt 1
 invoice account 1 receipt 1 fen 250
@@ -194,6 +194,9 @@ limit-bid account 5 receipt 1 yuan 5
 END
 ends 0 "7 calls: 7 accepted, 0 refused" play premium script
 ends 0 "lot 1: bid stands, owner 4, 1,000 kilograms, premium -5 yuan per tonne, seller 4, buyer 5" show premium
+ends 0 "first paid, lot 1, to account 1, premium -5 " statement premium 4
+ends 0 "part paid, lot 1, from account 4, premium -5 " statement premium 1
+objects 'assert [m["premium_yuan"] for m in kinds["movement"]] == [None, -5, -5, -5]' statement premium 4
 ends 0 "full payment 600 fen" show premium
 ends 0 "pay-ins 5,001,000 + received 0 - take-outs 0 - passed on 500 fen" statement premium 4
 ends 0 "+400" statement premium 1
@@ -243,7 +246,7 @@ holds "what --expect holds back is not made" test "$(total expect.zone)" -eq 9
 "$crz" new day >/dev/null && "$crz" play day "$here/host/day.txt" >said
 holds "the day is accepted" test $? -eq 0
 for line in "settled, buyer 11, seller 1, 63,092,610 fen" "buyer default, buyer 13" "seller default, seller 3" \
-    "struck, buyer 13, seller 2" "> register account 2 receipt 2 kilograms 42,000 premium-yuan -80" \
+    "struck, buyer 13, seller 2" "> register account 2 receipt 2 kilograms 42,000 premium -80" \
     "penalty, seller 3, buyer 14, 5,000,000 fen" "> pay-in account 11 fen 100,000,000"; do
     holds "the day has: $line" grep -qF "$line" said
 done
@@ -281,7 +284,7 @@ ends 0 "the next morning close, of day 1 (today), works 3 lots" due noon
 ends 0 "lot 1, due day 1: lodged, full payment 63,092,610 fen, seller 1 has lodged" due noon
 ends 0 "buyer 13 has 1,000,000 fen free and the deposit of 5,000,000 fen, lacks 55,782,000 fen" due noon
 ends 0 "lot 3, due day 1: struck, full payment 60,560,000 fen, seller 3 must lodge" due noon
-ends 0 "held for lot 1, lodged: 5,000,000 fen" statement noon 11
+ends 0 "held for lot 1, lodged, premium 100: 5,000,000 fen" statement noon 11
 ends 0 "held from the buyer 5,000,000 fen" show noon
 printf 'morning-close\n' | "$crz" play noon - >/dev/null
 ends 0 "seller 3 owes 5,000,000 fen to buyer 14" due noon
@@ -382,7 +385,7 @@ before() {
     python3 before.py "$1" "$2" "$(named CRZ_IMAGE_RECEIPTS)" "$(named CRZ_RECEIPT_LENGTH)" "$(named CRZ_RECEIPT_PREMIUM)"
 }
 # a day without premiums, up to a lot that is first paid, one with a penalty due and one with a standing bid
-sed 's/ premium-yuan -*[0-9]*//; /^invoice .* fen 33092610/,$d' "$here/host/day.txt" >script
+sed 's/ premium -*[0-9]*//; /^invoice .* fen 33092610/,$d' "$here/host/day.txt" >script
 echo "limit-bid account 14 receipt 4 yuan 14985" >>script
 "$crz" new plain >/dev/null && "$crz" play plain script >/dev/null && "$crz" export plain plain.image >/dev/null
 before plain.image older.image

@@ -33,6 +33,11 @@ BIDS = ["limit-bid", "market-bid"]
 REACH = ["settled", "sold again by its buyer", "paid in full", "penalty", "number 10 turned by it"]
 
 
+def word_of(name):
+    """The word of a field that JSON has under this name."""
+    return "premium" if name == "premium_yuan" else name.replace("_", "-")
+
+
 def grouped(number):
     return "{:,}".format(number)
 
@@ -70,7 +75,7 @@ class Books:
     def __init__(self):
         self.free, self.asks, self.lots = [0] * 97, [0] * 9, {}
         self.day, self.afternoon = 1, False
-        self.movements = {}  # of an account: (what, lot, other account, in, out)
+        self.movements = {}  # of an account: (what, lot, other account, in, out, premium where a full payment counts it)
         self.reached = set()  # (what, whether the premium is above 0)
 
     def frozen(self, account):
@@ -88,7 +93,7 @@ class Books:
     def out_of_range(self, kind, f, _):
         said = []
         for name in FIELDS[kind]:
-            (least, most), word = RANGES[name], name.replace("_", "-")
+            (least, most), word = RANGES[name], word_of(name)
             if not least <= f[name] <= most and not (kind == "quote" and f["yuan"] == 0 and name == "yuan"):
                 said.append("%s %s is not in %s to %s" % (word, grouped(f[name]), grouped(least), grouped(most)))
             elif name == "yuan" and f[name] % 5 != 0:
@@ -174,7 +179,8 @@ class Books:
     # ── Calls: each gives its entries, (lot, outcome, from, to, number) ──
 
     def move(self, account, what, lot=None, other=None, into=None, out=None):
-        self.movements.setdefault(account, []).append((what, lot, other, into, out))
+        premium = self.lots[lot].premium if what in ("first paid", "part paid") else None
+        self.movements.setdefault(account, []).append((what, lot, other, into, out, premium))
 
     def transfer(self, what, lot, payer, payee, fen):
         self.free[payee] += fen
@@ -385,7 +391,7 @@ def in_words(chance, kind, f):
     digits = chance.choice(["{}", "{:,}"])
     left_out = [name for name in f if name == "premium_yuan" and f[name] == 0 and chance.random() < 0.5]
     named = [name for name in f if name not in left_out]
-    return kind + "".join(" %s %s" % (name.replace("_", "-"), digits.format(f[name])) for name in named) + "\n"
+    return kind + "".join(" %s %s" % (word_of(name), digits.format(f[name])) for name in named) + "\n"
 
 
 def entry_fields(entry):
@@ -464,9 +470,11 @@ def compare_statement(check, program, zone, books, account):
     said = objects(program, "statement", zone, str(account))
     movements = books.movements.get(account, [])
     check.same("movements of account %d" % account, movements, [
-        (o["what"], o["lot"], o["other_account"], o["in_fen"], o["out_fen"]) for o in said if o["type"] == "movement"])
-    held = [(n, lot.held()) for n, lot in sorted(books.lots.items()) if lot.buyer == account and lot.held() > 0]
-    check.same("held for account %d" % account, [(o["lot"], o["fen"]) for o in said if o["type"] == "held"], held)
+        (o["what"], o["lot"], o["other_account"], o["in_fen"], o["out_fen"], o["premium_yuan"]) for o in said
+        if o["type"] == "movement"])
+    held = [(n, lot.held(), lot.premium) for n, lot in sorted(books.lots.items()) if lot.buyer == account and lot.held() > 0]
+    check.same("held for account %d" % account, [
+        (o["lot"], o["fen"], o["premium_yuan"]) for o in said if o["type"] == "held"], held)
     line = said[-1]
     check.same("sums of account %d" % account, sums(movements), [
         line["pay_ins_fen"], line["take_outs_fen"], line["received_fen"], line["passed_fen"]])
