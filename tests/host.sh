@@ -196,7 +196,6 @@ ends 0 "7 calls: 7 accepted, 0 refused" play premium script
 ends 0 "lot 1: bid stands, owner 4, 1,000 kilograms, premium -5 yuan per tonne, seller 4, buyer 5" show premium
 ends 0 "first paid, lot 1, to account 1, premium -5 " statement premium 4
 ends 0 "part paid, lot 1, from account 4, premium -5 " statement premium 1
-objects 'assert [m["premium_yuan"] for m in kinds["movement"]] == [None, -5, -5, -5]' statement premium 4
 ends 0 "full payment 600 fen" show premium
 ends 0 "pay-ins 5,001,000 + received 0 - take-outs 0 - passed on 500 fen" statement premium 4
 ends 0 "+400" statement premium 1
@@ -338,6 +337,7 @@ objects 'assert kinds["zone"][0] == {"type": "zone", "day": 2, "phase": "afterno
 objects 'assert sum(a["free_fen"] + a["frozen_fen"] for a in kinds["account"]) == 166000000' show day
 objects 'assert kinds["lot"][0]["owner"] == 11 and kinds["lot"][0]["full_fen"] is None' show day
 objects 'assert [lot["premium_yuan"] for lot in kinds["lot"]] == [100, -80, 0, 0]' show day
+objects 'assert [m["premium_yuan"] for m in kinds["movement"]] == [None, -5, -5, -5]' statement premium 4
 objects 'assert len(kinds["contract"]) == 8 and len(kinds["lot"]) == 4' show day
 objects 'b = kinds["balance"][0]; assert b["pay_ins_fen"] - b["passed_fen"] == b["free_fen"] == 36907390' statement day 11
 objects 'assert [m["out_fen"] for m in kinds["movement"]] == [None, 50474088, 6000000, 6618522]' statement day 11
