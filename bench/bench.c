@@ -108,22 +108,25 @@ static void fill_accounts(uint8_t *image)
         put_money(image, account, 1000000000 + account);
 }
 
-/* 128 lots in all eight states by turns, with premiums of both signs and none, and money in every account */
-static void busy(uint8_t *image)
+/* lots in all eight states by turns, with premiums of both signs and none, and money in every account */
+static void fill_lots(uint8_t *image, unsigned count)
 {
     unsigned number;
     fill_accounts(image);
-    for (number = 1; number <= CRZ_RECEIPT_COUNT; number++)
+    for (number = 1; number <= count; number++)
         put_receipt(image, number, (number - 1) % 8);
 }
 
-/* the same, but LAST is not registered */
+/* 128 of them */
+static void busy(uint8_t *image)
+{
+    fill_lots(image, CRZ_RECEIPT_COUNT);
+}
+
+/* LAST is not registered */
 static void busy_but_last(uint8_t *image)
 {
-    unsigned number;
-    fill_accounts(image);
-    for (number = 1; number < LAST; number++)
-        put_receipt(image, number, (number - 1) % 8);
+    fill_lots(image, LAST - 1);
 }
 
 /* one receipt listed and the money for one bid on it in one account; all else is empty */

@@ -56,7 +56,8 @@ static const struct help helps[] = {
     {"statement",
         "crz statement FILE ACCOUNT  [--json] [--wait SECONDS]\n"
         "\n"
-        "What was paid in, taken out, received and passed on, what is held for which lot, and how it adds up.\n"},
+        "What was paid in, taken out, received and passed on, what is held for which lot, and how it adds up.\n"
+        "Payments of a lot are shown with the premium of its receipt.\n"},
     {"due", "crz due FILE  [--json] [--wait SECONDS]\n"
             "\n"
             "The lots that the next morning close works, with their full payment, who must lodge and what each side\n"

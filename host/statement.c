@@ -23,7 +23,7 @@ struct movement {
     uint32_t lot, other; /* 0 where the movement has none */
     int in;
     uint64_t fen;
-    int graded; /* a part of a full payment, which counts the receipt's premium */
+    int with_premium; /* a part of a full payment, which counts the receipt's premium */
     int32_t premium;
 };
 
@@ -34,7 +34,7 @@ static void movement_words(char *words, size_t length, const struct movement *m)
     if (m->lot != 0)
         used += snprintf(
             words + used, length - (size_t)used, ", lot %u, %s account %u", m->lot, m->in ? "from" : "to", m->other);
-    if (m->graded)
+    if (m->with_premium)
         snprintf(words + used, length - (size_t)used, ", premium %s", grouped_signed(m->premium).text);
 }
 
@@ -54,7 +54,7 @@ static void json_movement(const struct movement *m)
     json_words("what", m->what);
     json_if(m->lot != 0, "lot", m->lot);
     json_if(m->other != 0, "other_account", m->other);
-    json_signed_if(m->graded, "premium_yuan", m->premium);
+    json_signed_if(m->with_premium, "premium_yuan", m->premium);
     json_if(m->in, "in_fen", m->fen);
     json_if(!m->in, "out_fen", m->fen);
     json_close();

@@ -35,7 +35,7 @@ const char *const state_words[STATES] = {
 #define MONEY (BIT(FIELD_ACCOUNT) | BIT(FIELD_FEN))
 #define LOT (BIT(FIELD_ACCOUNT) | BIT(FIELD_RECEIPT))
 #define TERMS (BIT(FIELD_CONTRACT) | BIT(FIELD_DAYS) | BIT(FIELD_BASIS))
-#define BALES (BIT(FIELD_KILOGRAMS) | BIT(FIELD_PREMIUM))
+#define WEIGHT_AND_PREMIUM (BIT(FIELD_KILOGRAMS) | BIT(FIELD_PREMIUM))
 #define OPEN (BIT(CRZ_STATE_LISTED) | BIT(CRZ_STATE_BID_STANDS))
 
 /* What scripts from before there were premiums do not name: left out, it is 0. */
@@ -44,7 +44,7 @@ const char *const state_words[STATES] = {
 static const struct kind_words kinds[] = {
     {"pay-in", CRZ_KIND_PAY_IN, MONEY, PARTY_ANYONE, 0, "adds to the account's free money"},
     {"take-out", CRZ_KIND_TAKE_OUT, MONEY, PARTY_ANYONE, 0, "takes from the account's free money"},
-    {"register", CRZ_KIND_REGISTER, LOT | BALES, PARTY_ANYONE, 0,
+    {"register", CRZ_KIND_REGISTER, LOT | WEIGHT_AND_PREMIUM, PARTY_ANYONE, 0,
         "gives a new receipt its owner, and the premium or discount that it keeps"},
     {"list", CRZ_KIND_LIST, LOT | TERMS, PARTY_OWNER, BIT(CRZ_STATE_IDLE), "offers the receipt for sale"},
     {"withdraw-listing", CRZ_KIND_WITHDRAW_LISTING, LOT, PARTY_SELLER, OPEN, "ends the offer and a bid on it"},

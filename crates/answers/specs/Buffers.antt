@@ -96,7 +96,7 @@ answerLength = answerHeader + receiptCount * entryLength
 
 -- ── The call record ────────────────────────────────────────────────────────────────────────────
 
--- single bytes, three spare ones, then an amount or a price, the basis and the weight
+-- single bytes, three spare ones, then an amount or a price, a basis or a premium, the weight
 unfoldable pub callIn : List ℕ → Call
 callIn b =
     record {

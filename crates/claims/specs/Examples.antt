@@ -10,9 +10,9 @@ use Rattle.zone.specs.Record.{recordOf}
 use Rattle.zone.specs.Valid.{freshZone}
 use Rattle.rules.specs.declared.Call.{Call}
 use Rattle.rules.specs.Tables.{nth}
-use Rattle.rules.specs.View.{freeOf, receiptOfNumber, recordOfReceipt}
+use Rattle.rules.specs.View.{freeOf, receiptOfNumber}
 use Rattle.claims.specs.History.{Reply, refusedWith}
-use Rattle.claims.specs.Replay.{replyTo, replay, zoneAfter}
+use Rattle.claims.specs.Replay.{replyTo, replay, zoneAfter, recordAfter, freeAfter}
 use Rattle.claims.specs.Words.{payIn, registers, lists, bids, bidsMarket, quote, lodges, morningClose, takesFirstPayment, sendsInvoice, confirms, dayClose, noEntries, oneEntry}
 
 -- Ginner 1 registers receipt 7 and lists it at contract 1; mill 2 has paid in.
@@ -34,11 +34,7 @@ afterDays (suc n) calls = morningClose ∷ dayClose ∷ afterDays n calls
 
 -- the due day of the lot after the calls
 abbrev dueAfter : List Call → ℕ
-dueAfter calls = recordOfReceipt (zoneAfter calls freshZone) 7 .due
-
--- free money of an account after the calls
-abbrev freeAfter : ℕ → List Call → ℕ
-freeAfter account calls = freeOf (zoneAfter calls freshZone .accounts) account .0
+dueAfter calls = recordAfter 7 calls .due
 
 pub record FourteenExamples : Type 0 where
   -- 1, 2, 3 and 6

@@ -10,9 +10,9 @@ use Rattle.zone.specs.Record.{recordOf}
 use Rattle.zone.specs.Valid.{freshZone}
 use Rattle.rules.specs.declared.Call.{Call}
 use Rattle.rules.specs.Tables.{nth}
-use Rattle.rules.specs.View.{freeOf, frozenOf, receiptOfNumber, recordOfReceipt}
+use Rattle.rules.specs.View.{freeOf, frozenOf, receiptOfNumber}
 use Rattle.claims.specs.History.{Reply, refusedWith}
-use Rattle.claims.specs.Replay.{replyTo, replay, zoneAfter}
+use Rattle.claims.specs.Replay.{replyTo, replay, zoneAfter, recordAfter, freeAfter, frozenAfter}
 use Rattle.claims.specs.Words.{payIn, registersGraded, lists, withdrawsListing, bids, bidsMarket, quote, lodges, morningClose, takesFirstPayment, sendsInvoice, confirms, dayClose, noEntries, oneEntry}
 
 -- the lowest premium and the highest
@@ -47,19 +47,20 @@ replies full first invoice part invoice′ part′ =
     noEntries ∷ oneEntry 7 1 1 0 0 ∷ oneEntry 7 2 1 0 0 ∷ oneEntry 7 4 2 1 15000 ∷ oneEntry 7 6 2 1 15000 ∷ oneEntry 7 7 1 2 0 ∷ oneEntry 7 8 2 1 full ∷ oneEntry 7 9 2 1 first
     ∷ oneEntry 7 10 1 2 invoice ∷ oneEntry 7 11 2 1 part ∷ oneEntry 7 10 1 2 invoice′ ∷ oneEntry 7 11 2 1 part′ ∷ []
 
--- money and receipt 7 after the calls
-abbrev freeAfter : ℕ → List Call → ℕ
-freeAfter account calls = freeOf (zoneAfter calls freshZone .accounts) account .0
-
-abbrev frozenAfter : ℕ → List Call → ℕ
-frozenAfter account calls = frozenOf (zoneAfter calls freshZone .accounts) account .0
-
+-- receipt 7 after the calls
 abbrev after : List Call → Record
-after calls = recordOfReceipt (zoneAfter calls freshZone) 7
+after calls = recordAfter 7 calls
 
 -- what is said to the calls that follow others
 abbrev then : List Call → List Call → List Reply
 then before calls = replay calls (zoneAfter before freshZone)
+
+-- mill 2 bids and is struck with no more than the deposit
+abbrev short : ℤ → List Call
+short premium = payIn 2 5000000 ∷ registersGraded 1 7 41237 premium ∷ lists 1 7 1 0 (pos 300) ∷ bids 2 7 15000 ∷ quote 1 15000 ∷ []
+
+abbrev struckShort : List Reply
+struckShort = noEntries ∷ oneEntry 7 1 1 0 0 ∷ oneEntry 7 2 1 0 0 ∷ oneEntry 7 4 2 1 15000 ∷ oneEntry 7 6 2 1 15000 ∷ []
 
 -- mill 2, the owner now, lists receipt 7 again, and ginner 1 bids 5
 abbrev resale : ℤ → List Call
@@ -90,9 +91,14 @@ pub record PremiumTrades : Type 0 where
   -- one yuan beyond either end
   pub below : replay (registersGraded 1 7 41237 (negsuc 5000) ∷ []) freshZone ≡ refusedWith 4 ∷ []
   pub beyond : replay (registersGraded 1 7 41237 (pos 5001) ∷ []) freshZone ≡ refusedWith 4 ∷ []
-  -- a listing withdrawn, one that the day close ends, a penalty that is due and one that has passed: the premium stays
+  -- a listing withdrawn, one that the day close ends, a buyer default and a double one, a penalty that is due and one that has passed: the
+  -- premium stays
   pub withdrawn : after (market lowest ++ (withdrawsListing 1 7 ∷ [])) .premium .0 ≡ lowest
   pub day-ended : after (market highest ++ (morningClose ∷ dayClose ∷ [])) .premium .0 ≡ highest
+  pub buyer-default : replay (short lowest ++ (lodges 1 7 ∷ morningClose ∷ [])) freshZone ≡ struckShort ++ (oneEntry 7 7 1 2 0 ∷ oneEntry 7 12 2 1 5000000 ∷ [])
+  pub defaulted : after (short lowest ++ (lodges 1 7 ∷ morningClose ∷ [])) .premium .0 ≡ lowest
+  pub double-default : replay (short highest ++ (morningClose ∷ [])) freshZone ≡ struckShort ++ (oneEntry 7 14 2 1 0 ∷ [])
+  pub both-defaulted : after (short highest ++ (morningClose ∷ [])) .premium .0 ≡ highest
   pub penalty-due : after (market lowest ++ (bids 2 7 15000 ∷ quote 1 15000 ∷ morningClose ∷ [])) .state ≡ 7
   pub owing : after (market lowest ++ (bids 2 7 15000 ∷ quote 1 15000 ∷ morningClose ∷ [])) .premium .0 ≡ lowest
   pub passed : after (market highest ++ (bids 2 7 15000 ∷ quote 1 15000 ∷ morningClose ∷ dayClose ∷ morningClose ∷ [])) .premium .0 ≡ highest
@@ -123,6 +129,10 @@ premium-trades =
       beyond = refl;
       withdrawn = refl;
       day-ended = refl;
+      buyer-default = refl;
+      defaulted = refl;
+      double-default = refl;
+      both-defaulted = refl;
       penalty-due = refl;
       owing = refl;
       passed = refl;

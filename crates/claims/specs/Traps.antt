@@ -8,9 +8,9 @@ use Rattle.zone.specs.Record.{recordOf}
 use Rattle.zone.specs.Valid.{freshZone}
 use Rattle.rules.specs.declared.Call.{Call}
 use Rattle.rules.specs.Tables.{nth}
-use Rattle.rules.specs.View.{freeOf, frozenOf, receiptOfNumber, recordOfReceipt}
+use Rattle.rules.specs.View.{freeOf, frozenOf, receiptOfNumber}
 use Rattle.claims.specs.History.{Reply, refusedWith}
-use Rattle.claims.specs.Replay.{replyTo, replay, zoneAfter}
+use Rattle.claims.specs.Replay.{replyTo, replay, zoneAfter, recordAfter, frozenAfter}
 use Rattle.claims.specs.Words.{payIn, registers, lists, bids, bidsMarket, withdrawsBid, quote, noEntries, oneEntry}
 
 -- ginner 1 lists receipt 7 at contract 1; mills 2 and 3 have paid in one deposit each
@@ -24,10 +24,10 @@ abbrev run : List Call → List Reply
 run calls = replay (market ++ calls) freshZone
 
 abbrev stateAfter : List Call → ℕ
-stateAfter calls = recordOfReceipt (zoneAfter (market ++ calls) freshZone) 7 .state
+stateAfter calls = recordAfter 7 (market ++ calls) .state
 
 abbrev buyerAfter : List Call → ℕ
-buyerAfter calls = recordOfReceipt (zoneAfter (market ++ calls) freshZone) 7 .buyer
+buyerAfter calls = recordAfter 7 (market ++ calls) .buyer
 
 pub record FourTraps : Type 0 where
   -- 1, a name kept: mill 2 withdraws between two quotes and is not struck by the second; mill 3 who bids then is
@@ -41,7 +41,7 @@ pub record FourTraps : Type 0 where
   pub own-price-on-arrival : run (quote 1 14990 ∷ bids 2 7 15000 ∷ []) ≡ opened ++ (noEntries ∷ oneEntry 7 6 2 1 15000 ∷ [])
   -- 3, money tested too early: a raise with nothing free is accepted
   pub own-raise : run (bids 2 7 15000 ∷ bids 2 7 15005 ∷ []) ≡ opened ++ (oneEntry 7 4 2 1 15000 ∷ oneEntry 7 4 2 1 15005 ∷ [])
-  pub own-raise-frozen : frozenOf (zoneAfter (market ++ (bids 2 7 15000 ∷ bids 2 7 15005 ∷ [])) freshZone .accounts) 2 .0 ≡ 5000000
+  pub own-raise-frozen : frozenAfter 2 (market ++ (bids 2 7 15000 ∷ bids 2 7 15005 ∷ [])) ≡ 5000000
   -- 4, a standing bid lost: a market bid without an ask is refused, and the standing bid is struck by the next quote
   pub no-ask : run (bids 2 7 15000 ∷ bidsMarket 3 7 ∷ quote 1 15000 ∷ []) ≡ opened ++ (oneEntry 7 4 2 1 15000 ∷ refusedWith 9 ∷ oneEntry 7 6 2 1 15000 ∷ [])
   pub no-ask-buyer : buyerAfter (bids 2 7 15000 ∷ bidsMarket 3 7 ∷ []) ≡ 2

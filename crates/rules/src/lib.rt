@@ -104,7 +104,8 @@ pub const NUMBER_OVER_INVOICE: u8 = 13;
 
 // ── Values ──────────────────────────────────────────────────────────────────────────────────────
 
-// A call record, field by field; `spare` is the number of its three zero bytes as they came.
+// A call record, field by field; `spare` is the number of its three zero bytes as they came, `basis` the premium where a receipt is
+// registered.
 pub struct Call {
     pub kind: u8,
     pub account: u8,

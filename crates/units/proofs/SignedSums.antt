@@ -4,7 +4,7 @@ use mathlib.Core.Path.{_≡_, refl, _∙_}
 use mathlib.Core.Bool.{Bool, true, false, cond}
 use Prim.Native.Nat.{ℕ, suc, _+_, _-_, _^_, _≤_, _<_}
 use native.Mathlib.Omega.{arith}
-use borrow.Author.Tests.{ltb-true, ltb-false, le-leb}
+use borrow.Author.Tests.{ltb-true, le-leb}
 use lib.Dec.{T, ltb}
 use lib.IntN.{ℤ, pos, negsuc, natAbs, _+ℤ_}
 use lib.Signed.{ltZ, leZ, mag, nonNeg}
@@ -52,19 +52,19 @@ module _ (p : ℕ) (b : ℤ) (hp : Fits w32 p) (s : SFits w32 b) where
 
   -- with the premium
   module _ (m : ℤ) (t : SFits w32 m) where
-    abbrev graded : ℤ
-    graded = toZ w64 (ofZ w64 listed) +ℤ wide m t
+    abbrev whole : ℤ
+    whole = toZ w64 (ofZ w64 listed) +ℤ wide m t
 
-    graded-is : graded ≡ pos p +ℤ b +ℤ m
-    graded-is = rw (toZ-ofZ listed-fits, listed-is, wide-is m t)
+    whole-is : whole ≡ pos p +ℤ b +ℤ m
+    whole-is = rw (toZ-ofZ listed-fits, listed-is, wide-is m t)
 
-    pub graded-fits : SFits w64 graded
-    graded-fits =
+    pub whole-fits : SFits w64 whole
+    whole-fits =
         let both : ℤ = pos p +ℤ b in
-        rw graded-is (record { sfits = omega (arith, sum-mag (pos p) b, sum-mag both m, hp .fits, s .sfits, t .sfits) })
+        rw whole-is (record { sfits = omega (arith, sum-mag (pos p) b, sum-mag both m, hp .fits, s .sfits, t .sfits) })
 
-    pub graded-held : toZ w64 (ofZ w64 graded) ≡ pos p +ℤ b +ℤ m
-    graded-held = toZ-ofZ graded-fits ∙ graded-is
+    pub whole-held : toZ w64 (ofZ w64 whole) ≡ pos p +ℤ b +ℤ m
+    whole-held = toZ-ofZ whole-fits ∙ whole-is
 
 -- ── a sum as an unsigned number ────────────────────────────────────────────────────────────────
 

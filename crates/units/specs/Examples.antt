@@ -8,12 +8,12 @@ use Rattle.units.specs.declared.Fen.{Fen}
 use Rattle.units.specs.Payments.{fen, unitPrice, payable, fullPayment, firstPayment}
 
 -- full payment at a price, a basis, a premium and a weight
-abbrev graded : ℕ → ℤ → ℤ → ℕ → Fen
-graded price basis premium weight = fullPayment (record { 0 = price }) (record { 0 = basis }) (record { 0 = premium }) (record { 0 = weight })
+abbrev fullWith : ℕ → ℤ → ℤ → ℕ → Fen
+fullWith price basis premium weight = fullPayment (record { 0 = price }) (record { 0 = basis }) (record { 0 = premium }) (record { 0 = weight })
 
 -- without a premium
 abbrev full : ℕ → ℤ → ℕ → Fen
-full price basis weight = graded price basis (pos 0) weight
+full price basis weight = fullWith price basis (pos 0) weight
 
 -- whether there is anything to pay
 abbrev pays : ℕ → ℤ → ℤ → Bool
@@ -32,10 +32,10 @@ pub record MoneyExamples : Type 0 where
   -- 6: every field at its upper end
   pub full-6 : full 200000 (pos 50000) 60000 ≡ fen 1500000000
   -- example 1 with the lowest premium and with the highest
-  pub full-down : graded 15000 (pos 300) (negsuc 4999) 41237 ≡ fen 42474110
-  pub full-up : graded 15000 (pos 300) (pos 5000) 41237 ≡ fen 83711110
+  pub full-down : fullWith 15000 (pos 300) (negsuc 4999) 41237 ≡ fen 42474110
+  pub full-up : fullWith 15000 (pos 300) (pos 5000) 41237 ≡ fen 83711110
   -- the most that can be paid
-  pub full-most : graded 200000 (pos 50000) (pos 5000) 60000 ≡ fen 1530000000
+  pub full-most : fullWith 200000 (pos 50000) (pos 5000) 60000 ≡ fen 1530000000
   -- the sum of the three at 1 and at 0, by a premium of either sign
   pub one-down : pays 5005 (negsuc 3) (negsuc 4999) ≡ true
   pub none-down : pays 5005 (negsuc 4) (negsuc 4999) ≡ false

@@ -2,9 +2,9 @@
 -- zone has.
 -- Assumes nothing.
 use mathlib.Core.Bool.{Bool, _&&_, _||_}
-use Prim.Native.Nat.{ℕ, _-_, _%_, _^_}
+use Prim.Native.Nat.{ℕ, _%_, _^_}
 use lib.Dec.{eqb, leb}
-use lib.IntN.{ℤ, pos, negsuc}
+use lib.IntN.{ℤ, pos, negℤ}
 use lib.Signed.{leZ}
 
 -- n lies from lo to hi
@@ -61,23 +61,23 @@ isPrice n = within 5 mostPrice n && eqb (n % 5) 0
 abbrev pub isAsk : ℕ → Bool
 isAsk n = eqb n 0 || isPrice n
 
--- a signed number from -most to most; `negsuc n` is -(n + 1), and no most is 0
-abbrev pub upOrDown : ℕ → ℤ → Bool
-upOrDown most z = leZ (negsuc (most - 1)) z && leZ z (pos most)
+-- a signed number from -most to most
+abbrev pub signedWithin : ℕ → ℤ → Bool
+signedWithin most z = leZ (negℤ (pos most)) z && leZ z (pos most)
 
 -- the ends of a basis, yuan per tonne
 abbrev pub mostBasis : ℕ
 mostBasis = 50000
 
 abbrev pub isBasis : ℤ → Bool
-isBasis b = upOrDown mostBasis b
+isBasis b = signedWithin mostBasis b
 
 -- the ends of a premium, yuan per tonne (02 2/12)
 abbrev pub mostPremium : ℕ
 mostPremium = 5000
 
 abbrev pub isPremium : ℤ → Bool
-isPremium p = upOrDown mostPremium p
+isPremium p = signedWithin mostPremium p
 
 -- the lightest receipt, and the heaviest
 abbrev pub leastWeight : ℕ

@@ -10,7 +10,7 @@ pub struct YuanPerTonne(pub u32);
 // What a listing adds to the price of its reference contract: whole yuan per tonne, of either sign.
 pub struct Basis(pub i32);
 
-// What a receipt adds to it for the grade of its bales, in every sale: whole yuan per tonne, of either sign.
+// What a receipt adds to the price for the grade of its bales, in every sale: whole yuan per tonne, of either sign.
 pub struct Premium(pub i32);
 
 // Money: whole fen.

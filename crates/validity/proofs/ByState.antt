@@ -20,7 +20,7 @@ one-of-two s k l h = go (ℕ-discrete s k)
     go (no n) = inr (omega arith)
 
 module _ (r : Record) where
-  -- what is left to test of a record once its state, owner and weight are in range
+  -- what is left to test of a record once its state, owner, weight and premium are in range
   abbrev pub fields : Bool
   fields = listingOk r && bidOk r && dueOk r && ownerOk r
 

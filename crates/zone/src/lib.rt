@@ -196,6 +196,37 @@ fn trade_record(
     flat_record(owner, weight, premium, state, l, b, t.due, i)
 }
 
+// A receipt with no trade: idle, listed, or with a bid that stands.
+fn offer_record(
+    owner: u8,
+    weight: Kilograms,
+    premium: Premium,
+    state: u8,
+    l: Listing,
+    b: Bid,
+) -> Record
+    ensures { λ r. ⌜ r ≡ flatRecord owner weight premium state l b 0 noInvoices ⌝ }
+{
+    flat_record(owner, weight, premium, state, l, b, 0, no_invoices())
+}
+
+// A seller who owes the penalty to a buyer.
+fn penalty_record(
+    owner: u8,
+    weight: Kilograms,
+    premium: Premium,
+    seller: u8,
+    buyer: u8,
+    due: u16,
+) -> Record
+    ensures { λ r. ⌜ r ≡ flatRecord owner weight premium 7 (noListing seller) (noBid buyer) due noInvoices ⌝ }
+{
+    let l = no_listing(seller);
+    let b = no_bid(buyer);
+    let none = no_invoices();
+    flat_record(owner, weight, premium, STATE_PENALTY_DUE, l, b, due, none)
+}
+
 pub fn record_of(r: Receipt) -> Record
     ensures { λ x. ⌜ x ≡ recordOf r ⌝ }
 {
@@ -205,43 +236,15 @@ pub fn record_of(r: Receipt) -> Record
     let lot = r.lot;
     let none = no_invoices();
     match lot {
-        Lot::Idle => flat_record(
-            owner,
-            weight,
-            premium,
-            STATE_IDLE,
-            no_listing(0),
-            no_bid(0),
-            0,
-            none,
-        ),
-        Lot::Listed(l) => flat_record(owner, weight, premium, STATE_LISTED, l, no_bid(0), 0, none),
-        Lot::BidStands(l, b) => flat_record(
-            owner,
-            weight,
-            premium,
-            STATE_BID_STANDS,
-            l,
-            b,
-            0,
-            none,
-        ),
+        Lot::Idle => offer_record(owner, weight, premium, STATE_IDLE, no_listing(0), no_bid(0)),
+        Lot::Listed(l) => offer_record(owner, weight, premium, STATE_LISTED, l, no_bid(0)),
+        Lot::BidStands(l, b) => offer_record(owner, weight, premium, STATE_BID_STANDS, l, b),
         Lot::Struck(t) => trade_record(owner, weight, premium, STATE_STRUCK, t, none),
         Lot::Lodged(t) => trade_record(owner, weight, premium, STATE_LODGED, t, none),
         Lot::Settled(t) => trade_record(owner, weight, premium, STATE_SETTLED, t, none),
         Lot::FirstPaid(t, i) => trade_record(owner, weight, premium, STATE_FIRST_PAID, t, i),
         Lot::PenaltyDue { seller, buyer, due } => {
-            let l = no_listing(seller);
-            flat_record(
-                owner,
-                weight,
-                premium,
-                STATE_PENALTY_DUE,
-                l,
-                no_bid(buyer),
-                due,
-                none,
-            )
+            penalty_record(owner, weight, premium, seller, buyer, due)
         }
     }
 }

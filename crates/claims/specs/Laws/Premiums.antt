@@ -1,15 +1,16 @@
 -- The premium of a receipt: from the rule of each kind to every call, and from there to every list of calls.
 -- Assumes nothing.
-use mathlib.Core.Bool.{Bool, true, not, true≢false}
-use mathlib.Core.List.{List, [], _∷_}
+use mathlib.Core.Bool.{Bool, true, not, true≢false, and-false}
+use mathlib.Core.List.{List, [], _∷_, map}
 use mathlib.Core.Logic.{_≢_}
 use mathlib.Core.Path.{_≡_, refl, sym, ap, _∙_, subst}
-use Prim.Native.Nat.{ℕ, suc, _≤_, _<_}
+use Prim.Native.Nat.{ℕ, zero, suc}
 use native.Mathlib.Decide.{ℕ-discrete}
 use native.Mathlib.Omega.{arith}
-use borrow.Author.Tests.{eqb-true, not-true, not-false}
+use borrow.Author.Tests.{eqb-true, eq-eqb, ne-eqb, not-true, not-false}
 use lib.Dec.{eqb, leb}
-use lib.IntN.{ℤ}
+use lib.IntN.{ℤ, pos}
+use lib.ListN.{getD, replicate}
 use Rattle.units.specs.declared.Premium.{Premium}
 use Rattle.units.specs.Ranges.{accountCount, receiptCount}
 use Rattle.zone.specs.declared.Lot.{Lot}
@@ -19,7 +20,8 @@ use Rattle.zone.specs.declared.Record.{Record}
 use Rattle.zone.specs.declared.Zone.{Zone}
 use Rattle.zone.specs.Laws.Back.{own-fields}
 use Rattle.zone.specs.Laws.Tests.{InRange, range-in}
-use Rattle.zone.specs.Valid.{noReceipt}
+use Rattle.zone.specs.Laws.Valid.{fresh-valid}
+use Rattle.zone.specs.Valid.{noReceipt, freshZone}
 use Rattle.rules.specs.declared.AtLot.the-variants.{Event}
 use Rattle.rules.specs.declared.Call.{Call}
 use Rattle.rules.specs.declared.Entry.{Entry}
@@ -35,32 +37,34 @@ use Rattle.rules.specs.Laws.Passed.{PassedAt, passed-at, as-kind, ranges, in-st
 use Rattle.rules.specs.Laws.Receipts.{buyer-in}
 use Rattle.rules.specs.Laws.Tables.{among-one, nth-put-same, nth-put-other}
 use Rattle.rules.specs.Steps.{numberOn}
-use Rattle.rules.specs.Tables.{among}
+use Rattle.rules.specs.Tables.{among, nth}
 use Rattle.rules.specs.View.{viewOf, receiptOfNumber, recordOfReceipt}
 use Rattle.image.specs.Image.{decode, encode}
-use Rattle.image.specs.Laws.RoundTrip.{valid-decode}
+use Rattle.image.specs.Laws.RoundTrip.{valid-decode, decode-encode, fresh-sized}
 use Rattle.answers.specs.Buffers.{callIn}
 use Rattle.lots.specs.Laws.Visits.{good-decode}
 use Rattle.crz.specs.Laws.Returned.{Left, refused, accepted, returned-case}
 use Rattle.crz.specs.Returned.{recordNumber}
-use Rattle.claims.specs.Demand.{Exchange, noCalls, next}
+use Rattle.claims.specs.Demand.{Exchange, noCalls, next, fed}
 use Rattle.claims.specs.Laws.Demand.{Zero, zero-for, new-zone}
-use Rattle.claims.specs.Premiums.{Graded, PremiumGiven, PremiumStays}
+use Rattle.claims.specs.History.{acceptedWith}
+use Rattle.claims.specs.Premiums.{receiptIn, Graded, PremiumGiven, PremiumStays, premiumBy, premiumAfter, PremiumsKnown}
 
 -- ── The rule of each kind ──────────────────────────────────────────────────────────────────────
 
--- the receipt after an event at record f has an owner and the record's premium
-record KeepsPremium (f : Record) (r : Receipt) : Type 0 where
-  registered : r .owner ≢ 0
-  premium : r .premium ≡ f .premium
+-- The receipt after an event of kind k at record f: only a registration gives a premium, and it finds no owner; an owner is there where there
+-- was one.
+record Carries (k : ℕ) (f : Record) (r : Receipt) : Type 0 where
+  premium : k ≢ 3 → r .premium ≡ f .premium
+  unowned : k ≡ 3 → f .owner ≡ 0
+  owned : f .owner ≢ 0 → r .owner ≢ 0
 
--- of a receipt that has an owner
-abbrev KeepsAt : Record → Entry → Receipt → Type 0
-KeepsAt f e r = f .owner ≢ 0 → KeepsPremium f r
+abbrev CarriesAt : ℕ → Record → Entry → Receipt → Type 0
+CarriesAt k f e r = Carries k f r
 
 -- with another lot alone it keeps both
-kept : (f : Record) {e : Entry} {lot : Lot} → On (KeepsAt f) (Event e (withLot f lot))
-kept f = event (λ o. record { registered = o; premium = refl })
+kept : (k : ℕ) → k ≢ 3 → (f : Record) {e : Entry} {lot : Lot} → On (CarriesAt k f) (Event e (withLot f lot))
+kept k n f = event (record { premium = λ _. refl; unowned = λ e. absurd (n e); owned = λ o. o })
 
 module _ (z : Zone) (G : Good z) (c : Call) (n : ℕ) where
   abbrev f : Record
@@ -72,48 +76,55 @@ module _ (z : Zone) (G : Good z) (c : Call) (n : ℕ) where
       let b : InRange 1 accountCount (f .buyer) = buyer-in f (valid-at z G n) (omega arith) in
       omega (arith, b .low)
 
-  abbrev Keeping : ℕ → Type 0
-  Keeping k = Visit (withKind c k) z n → On (KeepsAt f) (ruleAt (withKind c k) z n)
+  abbrev Carrying : ℕ → Type 0
+  Carrying k = Visit (withKind c k) z n → On (CarriesAt k f) (ruleAt (withKind c k) z n)
 
-  morning-close : On (KeepsAt f) (closeLot (viewOf z (c .account) f) n f)
+  morning-close : On (CarriesAt 11 f) (closeLot (viewOf z (c .account) f) n f)
   unfolding closeLot viewOf
   morning-close =
       let money : Bool = hasMoney (viewOf z (c .account) f) f in
+      let other : _≢_ {A = ℕ} 11 3 = λ e. omega arith in
       only (leb (f .due) (z .day)) _ λ _.
       chosen (among (f .state) (4 ∷ [])) _ _
-      (λ h. chosen money _ _ (λ _. event (λ o. record { registered = settled (among-one 4 h); premium = refl })) (λ _. kept f)) λ _.
+      (λ h. chosen money _ _
+      (λ _. event (record { premium = λ _. refl; unowned = λ e. absurd (other e); owned = λ _. settled (among-one 4 h) }))
+      (λ _. kept 11 other f)) λ _.
       chosen (among (f .state) (3 ∷ [])) _ _
-      (λ h. chosen money _ _ (λ _. kept f) (λ _. kept f)) λ _.
-      only (among (f .state) (7 ∷ [])) _ (λ _. kept f)
+      (λ h. chosen money _ _ (λ _. kept 11 other f) (λ _. kept 11 other f)) λ _.
+      only (among (f .state) (7 ∷ [])) _ (λ _. kept 11 other f)
 
-  by-rule : ByKind Keeping
+  -- a registration finds a receipt that nobody owns
+  registration : Visit (withKind c 3) z n → f .owner ≡ 0
+  registration v = eqb-true (f .owner) 0 (not-not (in-state (tested refl v)))
+    where
+      not-not : {b : Bool} → not (not b) ≡ true → b ≡ true
+      not-not {b} h = not-false b (not-true (not b) h)
+
+  by-rule : ByKind Carrying
   unfolding ruleOf noRule register listFor withdrawListing limitBid marketBid withdrawBid quoteLot lodge payFirst sendInvoice confirm dayCloseLot
   by-rule =
       let view : View = viewOf z (c .account) f in
       record {
         payIn = λ v. none;
         takeOut = λ v. none;
-        register = λ v. event (λ o. absurd (o (eqb-true (f .owner) 0 (free-number (in-state (tested refl v))))));
-        list = λ v. kept f;
-        withdrawListing = λ v. kept f;
-        limitBid = λ v. chosen (meetsAsk view (record { 0 = c .amount })) _ _ (λ _. kept f) (λ _. kept f);
-        marketBid = λ v. kept f;
-        withdrawBid = λ v. kept f;
-        quote = λ v. only (quoteMeets view (withKind c 9) f) _ (λ _. kept f);
-        lodge = λ v. kept f;
+        register = λ v. event (record { premium = λ n. absurd (n refl); unowned = λ _. registration v; owned = λ o. absurd (o (registration v)) });
+        list = λ v. kept 4 (λ e. omega arith) f;
+        withdrawListing = λ v. kept 5 (λ e. omega arith) f;
+        limitBid = λ v. chosen (meetsAsk view (record { 0 = c .amount })) _ _ (λ _. kept 6 (λ e. omega arith) f) (λ _. kept 6 (λ e. omega arith) f);
+        marketBid = λ v. kept 7 (λ e. omega arith) f;
+        withdrawBid = λ v. kept 8 (λ e. omega arith) f;
+        quote = λ v. only (quoteMeets view (withKind c 9) f) _ (λ _. kept 9 (λ e. omega arith) f);
+        lodge = λ v. kept 10 (λ e. omega arith) f;
         morningClose = λ v. morning-close;
-        firstPayment = λ v. kept f;
-        invoice = λ v. kept f;
-        confirm = λ v. kept f;
-        dayClose = λ v. only (among (f .state) (1 ∷ 2 ∷ [])) _ (λ _. kept f);
+        firstPayment = λ v. kept 12 (λ e. omega arith) f;
+        invoice = λ v. kept 13 (λ e. omega arith) f;
+        confirm = λ v. kept 14 (λ e. omega arith) f;
+        dayClose = λ v. only (among (f .state) (1 ∷ 2 ∷ [])) _ (λ _. kept 15 (λ e. omega arith) f);
         noKind = λ k h v. absurd (true≢false (sym (visit-kind v) ∙ h));
       }
-    where
-      free-number : {b : Bool} → not (not b) ≡ true → b ≡ true
-      free-number {b} h = not-false b (not-true (not b) h)
 
-  keeps : Visit c z n → On (KeepsAt f) (ruleAt c z n)
-  keeps v = by-kind by-rule (c .kind) v
+  carries : Visit c z n → On (CarriesAt (c .kind) f) (ruleAt c z n)
+  carries v = by-kind by-rule (c .kind) v
 
 -- ── One call ───────────────────────────────────────────────────────────────────────────────────
 
@@ -130,32 +141,41 @@ same-receipts {y} {z} {k} e S =
       premium = ap (λ (rs : List Receipt). receiptOfNumber rs k .premium) (sym e) ∙ S .premium;
     }
 
+-- what receipt k of the next zone is: another than before only at the lot of the event
+data Next (z : Zone) (e : Entry) (r : Receipt) (k : ℕ) (kind : ℕ) (x : Receipt) : Type 0 where
+  same : x ≡ receiptOfNumber (z .receipts) k → Next z e r k kind x
+  changed : x ≡ r → Carries kind (recordOfReceipt z k) r → Next z e r k kind x
+
+next-receipt : {c : Call} {lo : ℕ} {z : Zone} {n : ℕ} {e : Entry} {r : Receipt} → Linked c lo z n e r → (k : ℕ)
+    → Next z e r k (c .kind) (receiptOfNumber (posted z e r .receipts) k)
+unfolding posted receiptOfNumber
+next-receipt {c} {lo} {z} {n} {e} {r} L k = go (ℕ-discrete k (e .lot))
+  where
+    go : Dec (k ≡ e .lot) → Next z e r k (c .kind) (receiptOfNumber (posted z e r .receipts) k)
+    go (yes q) =
+        let m : n ≡ k = sym (L .fit .entry .lot) ∙ sym q in
+        changed
+        (rw q (nth-put-same noReceipt (z .receipts) (e .lot) r (rw (L .fit .entry .lot) (L .low)) (rw (L .good .sized .receipts, L .fit .entry .lot) (L .high))))
+        (subst (λ (j : ℕ). Carries (c .kind) (recordOfReceipt z j) r) m (on-event (carries z (L .good) c n (L .visit)) (L .rule)))
+    go (no n) = same (nth-put-other noReceipt (z .receipts) k (e .lot) r n)
+
 -- over an event
 posted-graded : {c : Call} {lo : ℕ} {z : Zone} {n : ℕ} {e : Entry} {r : Receipt} → Linked c lo z n e r → (k : ℕ) (p : Premium)
     → GradedAt z k p → GradedAt (posted z e r) k p
-unfolding posted receiptOfNumber
-posted-graded {c} {lo} {z} {n} {e} {r} L k p S = go (ℕ-discrete k (e .lot))
+posted-graded {c} {lo} {z} {n} {e} {r} L k p S = go (next-receipt L k)
   where
-    here : k ≡ e .lot → GradedAt (posted z e r) k p
-    here q =
-        let F = own-fields (receiptOfNumber (z .receipts) k) in
-        let m : n ≡ k = sym (L .fit .entry .lot) ∙ sym q in
-        let K : KeepsAt (recordOfReceipt z k) e r = subst (λ (j : ℕ). KeepsAt (recordOfReceipt z j) e r) m (on-event (keeps z (L .good) c n (L .visit)) (L .rule)) in
-        let P : KeepsPremium (recordOfReceipt z k) r = K (λ o. S .registered (sym (F .owner) ∙ o)) in
-        let at : receiptOfNumber (posted z e r .receipts) k ≡ r =
-        rw q (nth-put-same noReceipt (z .receipts) (e .lot) r (rw (L .fit .entry .lot) (L .low)) (rw (L .good .sized .receipts, L .fit .entry .lot) (L .high))) in
+    go : Next z e r k (c .kind) (receiptOfNumber (posted z e r .receipts) k) → GradedAt (posted z e r) k p
+    go (same q) =
         record {
-          registered = λ o. P .registered (ap (λ (x : Receipt). x .owner) (sym at) ∙ o);
-          premium = ap (λ (x : Receipt). x .premium) at ∙ P .premium ∙ F .premium ∙ S .premium;
+          registered = λ o. S .registered (ap (λ (x : Receipt). x .owner) (sym q) ∙ o);
+          premium = ap (λ (x : Receipt). x .premium) q ∙ S .premium;
         }
-
-    go : Dec (k ≡ e .lot) → GradedAt (posted z e r) k p
-    go (yes q) = here q
-    go (no n) =
-        let at : receiptOfNumber (posted z e r .receipts) k ≡ receiptOfNumber (z .receipts) k = nth-put-other noReceipt (z .receipts) k (e .lot) r n in
+    go (changed q K) =
+        let F = own-fields (receiptOfNumber (z .receipts) k) in
+        let o : recordOfReceipt z k .owner ≢ 0 = λ e. S .registered (sym (F .owner) ∙ e) in
         record {
-          registered = λ o. S .registered (ap (λ (x : Receipt). x .owner) (sym at) ∙ o);
-          premium = ap (λ (x : Receipt). x .premium) at ∙ S .premium;
+          registered = λ e. K .owned o (ap (λ (x : Receipt). x .owner) (sym q) ∙ e);
+          premium = ap (λ (x : Receipt). x .premium) q ∙ K .premium (λ e. o (K .unowned e)) ∙ F .premium ∙ S .premium;
         }
 
 -- over the events of a call
@@ -170,13 +190,38 @@ call-graded z c G q k p S =
     let K : GradedAt (T .last) k p = good-walk (graded-walk c) (T .chain) (opening-good z G c (T .passed)) k p O in
     subst (λ (y : Zone). GradedAt y k p) (sym (T .zone)) (same-receipts (sym (ended c (T .last) .receipts)) K)
 
--- a registration gives it
-registered-at : (z : Zone) (c : Call) → Good z → PassedAt (withKind c 3) z (c .receipt) → receiptOfNumber (effect z (withKind c 3) .zone .receipts) (c .receipt)
-    ≡ record { owner = c .account; weight = record { 0 = c .weight }; premium = record { 0 = c .basis }; lot = Idle }
-unfolding effect opening ending firstLot lotCount sweep ruleOf register posted receiptOfNumber
-registered-at z c G P =
-    let n : InRange 1 receiptCount (c .receipt) = range-in (ranges P .1 .0) in
-    nth-put-same noReceipt (z .receipts) (c .receipt) _ (n .low) (rw (G .sized .receipts) (n .high))
+-- over every kind but a registration no receipt has another premium
+premium-walk : (c : Call) → c .kind ≢ 3 → Walk c (λ lo z es last. (k : ℕ) → receiptOfNumber (last .receipts) k .premium ≡ receiptOfNumber (z .receipts) k .premium)
+premium-walk c o = record { end = λ G k. refl; step = λ L K k. K k ∙ one L k (next-receipt L k) }
+  where
+    one : {lo : ℕ} {z : Zone} {n : ℕ} {e : Entry} {r : Receipt} → Linked c lo z n e r → (k : ℕ)
+        → Next z e r k (c .kind) (receiptOfNumber (posted z e r .receipts) k)
+        → receiptOfNumber (posted z e r .receipts) k .premium ≡ receiptOfNumber (z .receipts) k .premium
+    one {z = z} L k (same q) = ap (λ (x : Receipt). x .premium) q
+    one {z = z} L k (changed q K) = ap (λ (x : Receipt). x .premium) q ∙ K .premium o ∙ own-fields (receiptOfNumber (z .receipts) k) .premium
+
+other-premium : (z : Zone) (c : Call) → Good z → c .kind ≢ 3 → numberOn z c ≡ 0 → (k : ℕ)
+    → receiptOfNumber (effect z c .zone .receipts) k .premium ≡ receiptOfNumber (z .receipts) k .premium
+other-premium z c G o q k =
+    let T : Taken z c = taken z c q in
+    let of : List Receipt → Premium = λ rs. receiptOfNumber rs k .premium in
+    ap (λ (y : Zone). of (y .receipts)) (T .zone)
+    ∙ ap of (ended c (T .last) .receipts)
+    ∙ good-walk (premium-walk c o) (T .chain) (opening-good z G c (T .passed)) k
+    ∙ ap of (opened c z .receipts)
+
+-- the receipts after a registration
+module _ (z : Zone) (c : Call) (G : Good z) (P : PassedAt (withKind c 3) z (c .receipt)) where
+  registered-at : receiptOfNumber (effect z (withKind c 3) .zone .receipts) (c .receipt)
+      ≡ record { owner = c .account; weight = record { 0 = c .weight }; premium = record { 0 = c .basis }; lot = Idle }
+  unfolding effect opening ending firstLot lotCount sweep ruleOf register posted receiptOfNumber
+  registered-at =
+      let n : InRange 1 receiptCount (c .receipt) = range-in (ranges P .1 .0) in
+      nth-put-same noReceipt (z .receipts) (c .receipt) _ (n .low) (rw (G .sized .receipts) (n .high))
+
+  beside : (k : ℕ) → k ≢ c .receipt → receiptOfNumber (effect z (withKind c 3) .zone .receipts) k ≡ receiptOfNumber (z .receipts) k
+  unfolding effect opening ending firstLot lotCount sweep ruleOf register posted receiptOfNumber
+  beside k n = nth-put-other noReceipt (z .receipts) k (c .receipt) _ n
 
 register-graded : (z : Zone) (c : Call) → Good z → c .kind ≡ 3 → numberOn z c ≡ 0 → GradedAt (effect z c .zone) (c .receipt) (record { 0 = c .basis })
 register-graded z c G e q =
@@ -188,6 +233,22 @@ register-graded z c G e q =
       registered = λ o. let none : c .account ≡ 0 = ap (λ (x : Receipt). x .owner) (sym at) ∙ o in omega (arith, a .low);
       premium = ap (λ (x : Receipt). x .premium) at;
     })
+
+-- of every accepted call: what the claim over lists says of one
+call-premium : (z : Zone) (c : Call) (es : List Entry) → Good z → numberOn z c ≡ 0 → (k : ℕ)
+    → receiptOfNumber (effect z c .zone .receipts) k .premium .0 ≡ premiumBy k c (acceptedWith es) (receiptOfNumber (z .receipts) k .premium .0)
+call-premium z c es G q k = go (ℕ-discrete (c .kind) 3) (ℕ-discrete k (c .receipt))
+  where
+    go : Dec (c .kind ≡ 3) → Dec (k ≡ c .receipt)
+        → receiptOfNumber (effect z c .zone .receipts) k .premium .0 ≡ premiumBy k c (acceptedWith es) (receiptOfNumber (z .receipts) k .premium .0)
+    go (no n) d = rw (ne-eqb (c .kind) 3 n) (ap (λ (x : Premium). x .0) (other-premium z c G n q k))
+    go (yes e) (yes h) =
+        rw (eq-eqb (c .kind) 3 e, eq-eqb (c .receipt) k (sym h), h) (ap (λ (x : Premium). x .0) (register-graded z c G e q .premium))
+    go (yes e) (no n) =
+        let P : PassedAt (withKind c 3) z (c .receipt) = as-kind c 3 e (passed-at z c q) in
+        rw (ne-eqb (c .receipt) k (λ h. n (sym h)), and-false (eqb (c .kind) 3))
+        (subst (λ (j : ℕ). receiptOfNumber (effect z (withKind c j) .zone .receipts) k .premium .0 ≡ receiptOfNumber (z .receipts) k .premium .0) (sym e)
+        (ap (λ (x : Receipt). x .premium .0) (beside z c G P k n)))
 
 -- ── On bytes ───────────────────────────────────────────────────────────────────────────────────
 
@@ -232,3 +293,41 @@ premium-stays start list image noCalls k p S = S
 premium-stays start _ _ (next {list} {image} m call answer number image′ answer′ R) k p S =
     let C = returned-case image call answer number image′ answer′ R in
     next-graded call answer (C .left) (C .is) k p (premium-stays start list image m k p S)
+
+-- ── From a fresh image ─────────────────────────────────────────────────────────────────────────
+
+none-at : (n k : ℕ) → getD (replicate n noReceipt) k noReceipt ≡ noReceipt
+none-at zero k = refl
+none-at (suc n) zero = refl
+none-at (suc n) (suc k) = none-at n k
+
+fresh-none : (k : ℕ) → receiptOfNumber (freshZone .receipts) k ≡ noReceipt
+unfolding receiptOfNumber nth freshZone
+fresh-none zero = refl
+fresh-none (suc k) = none-at receiptCount k
+
+fresh-premium : (k : ℕ) → receiptIn (encode freshZone) k .premium .0 ≡ pos 0
+fresh-premium k =
+    ap (λ (z : Zone). receiptOfNumber (z .receipts) k .premium .0) (decode-encode freshZone fresh-sized fresh-valid)
+    ∙ ap (λ (r : Receipt). r .premium .0) (fresh-none k)
+
+-- over one call
+next-known : (list : List Exchange) {image : List ℕ} (call answer : List ℕ) {number : ℕ} {image′ answer′ : List ℕ}
+    → Left image (callIn call) answer number image′ answer′ → number ≡ recordNumber image call answer → (k : ℕ)
+    → receiptIn image k .premium .0 ≡ premiumAfter k (map fed list)
+    → receiptIn image′ k .premium .0 ≡ premiumAfter k (map fed (record { call = call; number = number; answer = answer′ } ∷ list))
+unfolding premiumAfter
+next-known list call answer (refused n) e k S = S
+next-known list {image} call answer accepted e k S =
+    let c : Call = callIn call in
+    let Z : Zero image c = zero-for image call answer e in
+    ap (λ (z : Zone). receiptOfNumber (z .receipts) k .premium .0) (new-zone image c Z)
+    ∙ call-premium (decode image) c [] (good image c Z) (Z .number) k
+    ∙ ap (premiumBy k c (acceptedWith [])) S
+
+pub premiums-known : PremiumsKnown
+unfolding premiumAfter
+premiums-known list image noCalls k = fresh-premium k
+premiums-known _ _ (next {list} {image} m call answer number image′ answer′ R) k =
+    let C = returned-case image call answer number image′ answer′ R in
+    next-known list call answer (C .left) (C .is) k (premiums-known list image m k)

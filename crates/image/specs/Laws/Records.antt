@@ -1,14 +1,14 @@
 -- The header and each record, and their bytes: what was written is read (`-read`), and what was read is written (`-written`).
 -- Assumes nothing.
-use mathlib.Core.Bool.{Bool, true, false, cond, _||_}
+use mathlib.Core.Bool.{Bool, true, false, cond, _||_, false≢true}
 use mathlib.Core.List.{List, [], _∷_, _++_}
 use mathlib.Core.Path.{_≡_, refl, sym, ap, _∙_}
-use Prim.Native.Nat.{ℕ, zero, suc, _+_, _-_, _^_, _≤_, _<_}
+use Prim.Native.Nat.{ℕ, zero, suc, _+_, _^_, _≤_, _<_}
 use native.Mathlib.Decide.{ℕ-discrete}
 use native.Mathlib.Omega.{arith}
 use borrow.Author.Tests.{leb-true, eqb-true, eq-eqb, ne-eqb}
-use lib.Dec.{eqb, lit≤, lit<}
-use lib.IntN.{ℤ, pos, negsuc}
+use lib.Dec.{eqb, leb, lit≤, lit<}
+use lib.IntN.{ℤ, pos, negsuc, negℤ}
 use lib.ListN.{length, take, drop, getD, length-drop}
 use lib.Seq.{take-suc, take-add, take-all, getD-drop}
 use lib.Signed.{leZ}
@@ -16,7 +16,7 @@ use mir.Syntax.{w32}
 use mir.Val.{SFits}
 use Rattle.units.specs.declared.YuanPerTonne.{YuanPerTonne}
 use Rattle.units.specs.Payments.{fen}
-use Rattle.units.specs.Ranges.{accountCount, receiptCount, contractCount, mostPrice, mostBasis, mostPremium, upOrDown, isPrice}
+use Rattle.units.specs.Ranges.{accountCount, receiptCount, contractCount, mostPrice, mostBasis, mostPremium, signedWithin, isPrice}
 use Rattle.wire.specs.LittleEndian.{leAt, leBytes, signed32, bits32, Bytes}
 use Rattle.wire.specs.Laws.Bytes.{leAt-leBytes, leBytes-leAt, leAt-lt, bytes-leBytes, bytes-zeros}
 use Rattle.wire.specs.Laws.TwosComplement.{signed-bits, bits-signed, bits-lt}
@@ -67,9 +67,10 @@ unfolding askIn askBytes leAt leBytes
 ask-read a h = λ j. record { 0 = leAt-leBytes 4 (a .0) [] [] h j }
 
 -- a basis and a premium fit four bytes
-signed-fits : (most : ℕ) (z : ℤ) → most < 2 ^ 31 → upOrDown most z ≡ true → SFits w32 z
-signed-fits most (pos n) m h = record { sfits = omega (arith, leb-true n most (both (leZ (negsuc (most - 1)) (pos n)) _ h .1)) }
-signed-fits most (negsuc n) m h = record { sfits = omega (arith, leb-true n (most - 1) (both (leZ (negsuc (most - 1)) (negsuc n)) _ h .0)) }
+signed-fits : (most : ℕ) (z : ℤ) → most < 2 ^ 31 → signedWithin most z ≡ true → SFits w32 z
+signed-fits most (pos n) m h = record { sfits = omega (arith, leb-true n most (both (leZ (negℤ (pos most)) (pos n)) _ h .1)) }
+signed-fits zero (negsuc n) m h = absurd (false≢true h)
+signed-fits (suc most) (negsuc n) m h = record { sfits = omega (arith, leb-true n most (both (leb n most) true h .0)) }
 
 signed-read : (z : ℤ) → SFits w32 z → signed32 (leAt 4 (leBytes 4 (bits32 z)) 0) ≡ z
 unfolding leAt leBytes

@@ -1,6 +1,6 @@
 use borrow.Author.Needs.{needs}
 use Rattle.units.specs.Payments.{unitPrice}
-use Rattle.units.proofs.SignedSums.{cast-fits, listed-fits, graded-fits, graded-held}
+use Rattle.units.proofs.SignedSums.{cast-fits, listed-fits, whole-fits, whole-held}
 use Rattle.units.proofs.unit_price.Statement.{statement}
 use Rattle.units.proofs.unit_price.Tie as tie
 
@@ -18,12 +18,12 @@ cast-result-3 c = cast-fits (c .before .before .before .before .before .args .pr
 
 add-result-2 : tie.Need-add-result-2
 add-result-2 c =
-    graded-fits (c .before .before .before .before .before .args .price .0) (c .before .before .before .before .before .args .basis .0) (search needs) (search needs) (c .before .before .before .before .before .args .premium .0) (search needs)
+    whole-fits (c .before .before .before .before .before .args .price .0) (c .before .before .before .before .before .args .basis .0) (search needs) (search needs) (c .before .before .before .before .before .args .premium .0) (search needs)
 
 returns : tie.Need-returns
 unfolding unitPrice
 returns c =
-    graded-held (c .before .before .before .before .before .args .price .0) (c .before .before .before .before .before .args .basis .0) (search needs) (search needs) (c .before .before .before .before .before .args .premium .0) (search needs)
+    whole-held (c .before .before .before .before .before .args .price .0) (c .before .before .before .before .before .args .basis .0) (search needs) (search needs) (c .before .before .before .before .before .args .premium .0) (search needs)
 
 pub unit-price-spec : {M : Type 1} → statement M
 unit-price-spec =

@@ -1,5 +1,5 @@
 -- State, owner, weight and premium first; then the state says what is left to test.
-use mathlib.Core.Bool.{true, false, _&&_}
+use mathlib.Core.Bool.{true, _&&_}
 use mathlib.Core.Path.{_≡_, sym, _∙_}
 use borrow.Author.Tests.{not-true, not-false, leb-true}
 use lib.Dec.{leb}

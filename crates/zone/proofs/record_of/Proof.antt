@@ -16,8 +16,8 @@ no-listing-requires c κs = search needs
 no-bid-requires : tie.Need-no-bid-requires
 no-bid-requires c κs = search needs
 
-flat-record-requires : tie.Need-flat-record-requires
-flat-record-requires c κs = search needs
+offer-record-requires : tie.Need-offer-record-requires
+offer-record-requires c κs = search needs
 
 enum-known-lot : tie.Need-enum-known-lot
 enum-known-lot c = search needs
@@ -25,14 +25,14 @@ enum-known-lot c = search needs
 no-bid-requires-2 : tie.Need-no-bid-requires-2
 no-bid-requires-2 c κs = search needs
 
-flat-record-requires-2 : tie.Need-flat-record-requires-2
-flat-record-requires-2 c κs = search needs
+offer-record-requires-2 : tie.Need-offer-record-requires-2
+offer-record-requires-2 c κs = search needs
 
 enum-known-lot-2 : tie.Need-enum-known-lot-2
 enum-known-lot-2 c = search needs
 
-flat-record-requires-3 : tie.Need-flat-record-requires-3
-flat-record-requires-3 c κs = search needs
+offer-record-requires-3 : tie.Need-offer-record-requires-3
+offer-record-requires-3 c κs = search needs
 
 enum-known-lot-3 : tie.Need-enum-known-lot-3
 enum-known-lot-3 c = search needs
@@ -61,26 +61,20 @@ trade-record-requires-4 c κs = search needs
 enum-known-lot-7 : tie.Need-enum-known-lot-7
 enum-known-lot-7 c = search needs
 
-no-listing-requires-2 : tie.Need-no-listing-requires-2
-no-listing-requires-2 c κs = search needs
-
-no-bid-requires-3 : tie.Need-no-bid-requires-3
-no-bid-requires-3 c κs = search needs
-
-flat-record-requires-4 : tie.Need-flat-record-requires-4
-flat-record-requires-4 c κs = search needs
+penalty-record-requires : tie.Need-penalty-record-requires
+penalty-record-requires c κs = search needs
 
 returns : tie.Need-returns
 unfolding recordOf
-returns c = rw (c .flat-record .ensures, c .before .before .no-listing .ensures, c .before .no-bid .ensures, c .before .before .before .before .before .no-invoices .ensures, c .before .before .before .enum-told .given .1)
+returns c = rw (c .offer-record .ensures, c .before .before .no-listing .ensures, c .before .no-bid .ensures, c .before .before .before .enum-told .given .1)
 
 returns-2 : tie.Need-returns-2
 unfolding recordOf
-returns-2 c = rw (c .flat-record2 .ensures, c .before .no-bid2 .ensures, c .before .before .before .before .before .no-invoices .ensures, c .before .before .before .lot .given .1)
+returns-2 c = rw (c .offer-record2 .ensures, c .before .no-bid2 .ensures, c .before .before .before .lot .given .1)
 
 returns-3 : tie.Need-returns-3
 unfolding recordOf
-returns-3 c = rw (c .flat-record3 .ensures, c .before .before .before .before .no-invoices .ensures, c .before .before .lot2 .given .1)
+returns-3 c = rw (c .offer-record3 .ensures, c .before .before .lot2 .given .1)
 
 returns-4 : tie.Need-returns-4
 unfolding recordOf
@@ -100,7 +94,7 @@ returns-7 c = rw (c .trade-record4 .ensures, c .before .before .lot6 .given .1)
 
 returns-8 : tie.Need-returns-8
 unfolding recordOf
-returns-8 c = rw (c .flat-record4 .ensures, c .before .before .no-listing2 .ensures, c .before .no-bid3 .ensures, c .before .before .before .before .before .before .no-invoices .ensures, c .before .before .before .before .lot7 .given .1)
+returns-8 c = rw (c .penalty-record .ensures, c .before .before .lot7 .given .1)
 
 pub record-of-spec : {M : Type 1} → statement M
 record-of-spec =
@@ -110,12 +104,12 @@ record-of-spec =
     enum-told
     no-listing-requires
     no-bid-requires
-    flat-record-requires
+    offer-record-requires
     enum-known-lot
     no-bid-requires-2
-    flat-record-requires-2
+    offer-record-requires-2
     enum-known-lot-2
-    flat-record-requires-3
+    offer-record-requires-3
     enum-known-lot-3
     trade-record-requires
     enum-known-lot-4
@@ -125,9 +119,7 @@ record-of-spec =
     enum-known-lot-6
     trade-record-requires-4
     enum-known-lot-7
-    no-listing-requires-2
-    no-bid-requires-3
-    flat-record-requires-4
+    penalty-record-requires
     returns
     returns-2
     returns-3

@@ -21,7 +21,7 @@ use Rattle.zone.specs.declared.Record.{Record}
 use Rattle.zone.specs.Held.{full, rest, held, fenFrom, heldFrom, heldSum, allMoney}
 use Rattle.zone.specs.Record.{recordOf}
 use Rattle.zone.specs.Valid.{emptyAccount, recordValid}
-use Rattle.zone.specs.Laws.Tests.{up-at-most, InRange, in-range, filled-either}
+use Rattle.zone.specs.Laws.Tests.{signed-at-most, InRange, in-range, filled-either}
 use Rattle.zone.specs.Laws.Facts.{InvoicesIn, known, owner-some, unregistered, Bounds, bounds}
 
 -- ── One lot ────────────────────────────────────────────────────────────────────────────────────
@@ -30,8 +30,8 @@ use Rattle.zone.specs.Laws.Facts.{InvoicesIn, known, owner-some, unregis
 pub full-le : (r : Record) → Bounds r → full r .0 ≤ mostFull
 unfolding full
 full-le r B =
-    full-at-most (r .price) (r .basis) (r .premium) (r .weight) (B .price) (up-at-most mostBasis (r .basis .0) (B .basis))
-    (up-at-most mostPremium (r .premium .0) (B .premium)) (B .weight)
+    full-at-most (r .price) (r .basis) (r .premium) (r .weight) (B .price) (signed-at-most mostBasis (r .basis .0) (B .basis))
+    (signed-at-most mostPremium (r .premium .0) (B .premium)) (B .weight)
 
 -- full payment of a valid record with a bid is not nothing
 pub full-ge : (r : Record) → recordValid r ≡ true → InRange 2 6 (r .state) → 100 ≤ full r .0

@@ -2,13 +2,13 @@
 -- Assumes nothing.
 use mathlib.Core.Bool.{Bool, true, false, _&&_, true≢false, false≢true, and-eq-true-iff}
 use mathlib.Core.Path.{_≡_, refl, sym, ap, _∙_}
-use Prim.Native.Nat.{ℕ, _≤_, _-_}
+use Prim.Native.Nat.{ℕ, _≤_}
 use native.Mathlib.Omega.{arith}
 use borrow.Author.Tests.{leb-true, le-leb}
 use lib.Dec.{leb}
-use lib.IntN.{ℤ, pos, negsuc}
+use lib.IntN.{ℤ, pos, negsuc, negℤ}
 use lib.Signed.{leZ}
-use Rattle.units.specs.Ranges.{within, isZero, mostPrice, isPrice, upOrDown}
+use Rattle.units.specs.Ranges.{within, isZero, mostPrice, isPrice, signedWithin}
 use Rattle.zone.specs.Valid.{filled, inStates}
 
 -- both parts of a test that passes
@@ -43,8 +43,8 @@ price-at-most n h =
     r .high
 
 -- no basis and no premium is above the largest
-pub up-at-most : (most : ℕ) (z : ℤ) → upOrDown most z ≡ true → leZ z (pos most) ≡ true
-up-at-most most z h = both (leZ (negsuc (most - 1)) z) _ h .1
+pub signed-at-most : (most : ℕ) (z : ℤ) → signedWithin most z ≡ true → leZ z (pos most) ≡ true
+signed-at-most most z h = both (leZ (negℤ (pos most)) z) _ h .1
 
 -- what the test of a signed zero tells, and what makes it pass
 pub zero-is : (z : ℤ) → isZero z ≡ true → z ≡ pos 0
