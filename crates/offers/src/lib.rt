@@ -31,6 +31,13 @@ use zone::Trade;
 
 // ── Registration and listings ───────────────────────────────────────────────────────────────────
 
+// A registration has the premium in the field of the basis.
+fn premium_of(c: Call) -> Premium
+    ensures { λ r. ⌜ r .0 ≡ c .basis ⌝ }
+{
+    Premium(c.basis)
+}
+
 pub fn register_at(c: Call, n: u8) -> AtLot
     ensures { λ x. ⌜ x ≡ register c n ⌝ }
 {
@@ -40,7 +47,7 @@ pub fn register_at(c: Call, n: u8) -> AtLot
         Receipt {
             owner: c.account,
             weight: Kilograms(c.weight),
-            premium: Premium(c.basis),
+            premium: premium_of(c),
             lot: Lot::Idle,
         },
     )

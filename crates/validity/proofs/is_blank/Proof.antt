@@ -14,21 +14,15 @@ is-zero-requires-2 : tie.Need-is-zero-requires-2
 is-zero-requires-2 c κs = search needs
 
 -- basis and premium are as the machine holds them
-basis-kept : (c : tie.Start) → toZ w32 (ofZ w32 (c .args .r .basis .0)) ≡ c .args .r .basis .0
-basis-kept c = toZ-ofZ (search needs)
-
-premium-kept : (c : tie.Start) → toZ w32 (ofZ w32 (c .args .r .premium .0)) ≡ c .args .r .premium .0
-premium-kept c = toZ-ofZ (search needs)
+kept : (c : tie.Start) →
+    (toZ w32 (ofZ w32 (c .args .r .basis .0)) ≡ c .args .r .basis .0) × (toZ w32 (ofZ w32 (c .args .r .premium .0)) ≡ c .args .r .premium .0)
+kept c = (toZ-ofZ (search needs), toZ-ofZ (search needs))
 
 returns : tie.Need-returns
 unfolding blank
 returns c =
-    rw (
-      c .before .before .is-zero .ensures,
-      c .is-zero2 .ensures,
-      basis-kept (c .before .before .before .before .before .before .before .before .before .before .before .before .before .before .before .before),
-      premium-kept (c .before .before .before .before .before .before .before .before .before .before .before .before .before .before .before .before),
-    )
+    let k = kept (c .before .before .before .before .before .before .before .before .before .before .before .before .before .before .before .before) in
+    rw (c .before .before .is-zero .ensures, c .is-zero2 .ensures, k .0, k .1)
 
 pub is-blank-spec : {M : Type 1} → statement M
 is-blank-spec = tie.close (tie.spec is-zero-requires is-zero-requires-2 returns)
