@@ -1,5 +1,5 @@
--- Where each part and each field of an image stands (01 Image 1 to 4, 02 2/12). Every length, start and place is named here once, and each start
--- follows from what stands before it; src/lib.rt has a const for each name that the code uses.
+-- Where each part and each field of an image stands (01 Image 1 to 4, 02 2/12). Every length, start and place is named here once, and each
+-- start follows from what stands before it; src/lib.rt has a const for each name that the code uses.
 -- Assumes nothing.
 use mathlib.Core.Bool.{Bool, cond, _&&_}
 use mathlib.Core.List.{List, [], _∷_, _++_}

@@ -1,5 +1,5 @@
--- The numbers 3 to 13 (01 Answers 14 to 24, with the premium of 02 2/12): one test for each, and the table. The byte buffers' own numbers, 1 and 2, stand with the
--- entry (crz, Returned).
+-- The numbers 3 to 13 (01 Answers 14 to 24, with the premium of 02 2/12): one test for each, and the table. The byte buffers' own
+-- numbers, 1 and 2, stand with the entry (crz, Returned).
 -- Assumes nothing.
 use mathlib.Core.Bool.{Bool, true, false, not, _&&_, _||_}
 use mathlib.Core.List.{List, [], _∷_}
@@ -33,8 +33,8 @@ abbrev pub natural : (ℕ → Bool) → ℤ → Bool
 natural f (pos n) = f n
 natural f (negsuc n) = false
 
--- The fields, each with the range of its numbers (01 Image 17). One field is an amount, a price, or a price or 0, by its
--- kind, and one a basis or a premium.
+-- The fields, each with the range of its numbers (01 Image 17). One field is an amount, a price, or a price or 0, by its kind, and one a
+-- basis or a premium.
 abbrev pub account : Field
 account = record { index = 0; range = natural isAccount }
 
@@ -65,7 +65,8 @@ premium = record { index = 5; range = isPremium }
 abbrev pub weight : Field
 weight = record { index = 6; range = natural isWeight }
 
--- the fields that each kind uses, those in its brackets (01 Calls 4 to 25; a registration has a premium, 02 2/12); the spare bytes are in none
+-- the fields that each kind uses, those in its brackets (01 Calls 4 to 25; a registration has a premium, 02 2/12); the spare bytes are in
+-- none
 abbrev pub brackets : ℕ → List Field
 brackets kind =
     row kind []

@@ -1,5 +1,5 @@
--- The money of a trade (01 Money, with the premium of 02 2/12). Each unit is a type of its own, declared in src/lib.rt, so that no price can stand
--- where money is asked for.
+-- The money of a trade (01 Money, with the premium of 02 2/12). Each unit is a type of its own, declared in src/lib.rt, so that no price
+-- can stand where money is asked for.
 -- Assumes nothing.
 use mathlib.Core.Bool.{Bool, cond}
 use Prim.Native.Nat.{ℕ, _+_, _-_, _*_, _/_, min}

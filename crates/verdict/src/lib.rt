@@ -87,7 +87,8 @@ fn owner_at(image: &[u8], k: usize) -> u8
     image[RECEIPT_START + k * RECEIPT_LENGTH]
 }
 
-// A record without an owner is valid if it is all zeros. They are read by eight bytes, and the last four, which is quicker than field by field.
+// A record without an owner is valid if it is all zeros. Eight bytes are read at a time, the premium by itself: quicker than field by
+// field.
 fn all_zero(s: &[u8]) -> bool
     requires { ⌜ (length (now s) ≡ receiptLength) × (recordIn (now s) .owner ≡ 0) ⌝ }
     ensures { λ r. ⌜ r ≡ recordValid (recordIn (now (s .entry))) ⌝ }

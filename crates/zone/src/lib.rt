@@ -197,7 +197,7 @@ fn trade_record(
 }
 
 // A receipt with no trade: idle, listed, or with a bid that stands.
-fn offer_record(
+fn untraded_record(
     owner: u8,
     weight: Kilograms,
     premium: Premium,
@@ -236,9 +236,9 @@ pub fn record_of(r: Receipt) -> Record
     let lot = r.lot;
     let none = no_invoices();
     match lot {
-        Lot::Idle => offer_record(owner, weight, premium, STATE_IDLE, no_listing(0), no_bid(0)),
-        Lot::Listed(l) => offer_record(owner, weight, premium, STATE_LISTED, l, no_bid(0)),
-        Lot::BidStands(l, b) => offer_record(owner, weight, premium, STATE_BID_STANDS, l, b),
+        Lot::Idle => untraded_record(owner, weight, premium, STATE_IDLE, no_listing(0), no_bid(0)),
+        Lot::Listed(l) => untraded_record(owner, weight, premium, STATE_LISTED, l, no_bid(0)),
+        Lot::BidStands(l, b) => untraded_record(owner, weight, premium, STATE_BID_STANDS, l, b),
         Lot::Struck(t) => trade_record(owner, weight, premium, STATE_STRUCK, t, none),
         Lot::Lodged(t) => trade_record(owner, weight, premium, STATE_LODGED, t, none),
         Lot::Settled(t) => trade_record(owner, weight, premium, STATE_SETTLED, t, none),

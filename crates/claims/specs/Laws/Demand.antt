@@ -20,7 +20,7 @@ use Rattle.image.specs.Laws.RoundTrip.{decode-encode, valid-encode, valid-decod
 use Rattle.answers.specs.Buffers.{callLength, answerLength, callIn, entriesIn, acceptedAnswer}
 use Rattle.answers.specs.Laws.ReadBack.{Numbered, entries-back}
 use Rattle.crz.specs.Laws.Returned.{Left, refused, accepted, returned-case}
-use Rattle.crz.specs.Returned.{afterBufferNumbers, callNumber, recordNumber}
+use Rattle.crz.specs.Returned.{afterBufferNumbers, callNumber, recordNumber, Returned}
 use Rattle.claims.specs.Demand.{Exchange, MadeFrom, noCalls, next, fed, KeepsImage, ImageKept, StaysValid, FreshIsValid, Demand3}
 use Rattle.claims.specs.History.{acceptedWith}
 use Rattle.claims.specs.Kept.{EntryFits, NumbersFit, Kept}
@@ -79,6 +79,21 @@ module _ (image : List ℕ) (c : Call) (ok : Zero image c) where
 
   pub read-back : (answer : List ℕ) → entriesIn (acceptedAnswer (done .zone) (done .entries) answer) ≡ done .entries
   read-back answer = entries-back (done .zone) (done .entries) answer (omega (arith, kept .count)) (numbered (done .entries) (numbers-fit (done .entries) (kept .fit)))
+
+-- number 0, and what the call has left
+pub record AcceptedCall (image call answer image′ answer′ : List ℕ) : Type 0 where
+  pub zero : Zero image (callIn call)
+  pub image-is : image′ ≡ encode (effect (decode image) (callIn call) .zone)
+  pub answer-is : answer′ ≡ acceptedAnswer (effect (decode image) (callIn call) .zone) (effect (decode image) (callIn call) .entries) answer
+
+pub accepted-call : (image call answer image′ answer′ : List ℕ) → Returned image call answer 0 image′ answer′ → AcceptedCall image call answer image′ answer′
+accepted-call image call answer image′ answer′ R =
+    let C = returned-case image call answer 0 image′ answer′ R in
+    go (C .left) (C .is) refl
+  where
+    go : {n : ℕ} {i a : List ℕ} → Left image (callIn call) answer n i a → 0 ≡ recordNumber image call answer → n ≡ 0 → AcceptedCall image call answer i a
+    go (refused n) e h = absurd (omega arith)
+    go accepted e h = record { zero = zero-for image call answer e; image-is = refl; answer-is = refl }
 
 -- ── The claims ─────────────────────────────────────────────────────────────────────────────────
 

@@ -27,7 +27,8 @@ use Rattle.rules.specs.Laws.Keeps.{no-opening, ended}
 use Rattle.rules.specs.Laws.Kinds.{withKind}
 use Rattle.rules.specs.Laws.Moves.{free-credit, frozen-credit, free-debit, frozen-debit}
 use Rattle.rules.specs.Laws.Passed.{PassedAt, ranges}
-use Rattle.rules.specs.Laws.Tables.{nth-put-same, nth-put-other, special, among-none}
+use Rattle.rules.specs.Laws.Links.{receipt-at, receipt-beside}
+use Rattle.rules.specs.Laws.Tables.{special, among-none}
 use Rattle.rules.specs.Numbers.{lacksMoney}
 use Rattle.rules.specs.Ready.{Funded}
 use Rattle.rules.specs.Tables.{nth, put}
@@ -61,8 +62,8 @@ module _ (c : Call) (z : Zone) (h : HistoryTable) (e : Entry) (r′ : Receipt) (
       go : (k : ℕ) → 0 < k → k ≤ receiptCount → Dec (k ≡ e .lot) →
           Known (recordOf (nth noReceipt (put (z .receipts) (e .lot) r′) k)) (cond (eqb k (e .lot)) (withEntry c e (h .lots k)) (h .lots k))
       go k a b (yes q) =
-          rw (eq-eqb k (e .lot) q) (rw q (rw (nth-put-same noReceipt (z .receipts) (e .lot) r′ low (rw (S .receipts) high)) (T .known)))
-      go k a b (no q) = rw (ne-eqb k (e .lot) q, nth-put-other noReceipt (z .receipts) k (e .lot) r′ q) (I .linked k a b)
+          rw (eq-eqb k (e .lot) q) (rw q (rw (receipt-at z e r′ S low high) (T .known)))
+      go k a b (no q) = rw (ne-eqb k (e .lot) q, receipt-beside z e r′ k q) (I .linked k a b)
 
 -- ── Opening and ending ─────────────────────────────────────────────────────────────────────────
 
@@ -113,7 +114,7 @@ ending-kept c z h I = subst₂ (λ (l : List Account) (rs : List Receipt). InSte
 
 -- ── The start ──────────────────────────────────────────────────────────────────────────────────
 
-nth-replicate : {A : Type 0} (d : A) (n k : ℕ) → nth d (replicate n d) k ≡ d
+pub nth-replicate : {A : Type 0} (d : A) (n k : ℕ) → nth d (replicate n d) k ≡ d
 unfolding nth
 nth-replicate d n zero = refl
 nth-replicate d n (suc k) = go n k

@@ -4,13 +4,12 @@ use mathlib.Core.Bool.{Bool, true, not, true≢false, and-false}
 use mathlib.Core.List.{List, [], _∷_, map}
 use mathlib.Core.Logic.{_≢_}
 use mathlib.Core.Path.{_≡_, refl, sym, ap, _∙_, subst}
-use Prim.Native.Nat.{ℕ, zero, suc}
+use Prim.Native.Nat.{ℕ}
 use native.Mathlib.Decide.{ℕ-discrete}
 use native.Mathlib.Omega.{arith}
 use borrow.Author.Tests.{eqb-true, eq-eqb, ne-eqb, not-true, not-false}
 use lib.Dec.{eqb, leb}
 use lib.IntN.{ℤ, pos}
-use lib.ListN.{getD, replicate}
 use Rattle.units.specs.declared.Premium.{Premium}
 use Rattle.units.specs.Ranges.{accountCount, receiptCount}
 use Rattle.zone.specs.declared.Lot.{Lot}
@@ -32,12 +31,12 @@ use Rattle.rules.specs.Laws.Chain.{On, none, event, chosen, only, on-event, Vis
 use Rattle.rules.specs.Laws.Good.{Good, valid-at}
 use Rattle.rules.specs.Laws.Keeps.{opened, ended, opening-good}
 use Rattle.rules.specs.Laws.Kinds.{withKind, ByKind, by-kind}
-use Rattle.rules.specs.Laws.Links.{tested, visit-kind, Linked, Walk, good-walk}
+use Rattle.rules.specs.Laws.Links.{tested, visit-kind, Linked, Walk, good-walk, receipt-at, receipt-beside}
 use Rattle.rules.specs.Laws.Passed.{PassedAt, passed-at, as-kind, ranges, in-state}
 use Rattle.rules.specs.Laws.Receipts.{buyer-in}
-use Rattle.rules.specs.Laws.Tables.{among-one, nth-put-same, nth-put-other}
+use Rattle.rules.specs.Laws.Tables.{among-one}
 use Rattle.rules.specs.Steps.{numberOn}
-use Rattle.rules.specs.Tables.{among, nth}
+use Rattle.rules.specs.Tables.{among}
 use Rattle.rules.specs.View.{viewOf, receiptOfNumber, recordOfReceipt}
 use Rattle.image.specs.Image.{decode, encode}
 use Rattle.image.specs.Laws.RoundTrip.{valid-decode, decode-encode, fresh-sized}
@@ -46,7 +45,8 @@ use Rattle.lots.specs.Laws.Visits.{good-decode}
 use Rattle.crz.specs.Laws.Returned.{Left, refused, accepted, returned-case}
 use Rattle.crz.specs.Returned.{recordNumber}
 use Rattle.claims.specs.Demand.{Exchange, noCalls, next, fed}
-use Rattle.claims.specs.Laws.Demand.{Zero, zero-for, new-zone}
+use Rattle.claims.specs.Laws.Demand.{Zero, zero-for, new-zone, accepted-call}
+use Rattle.claims.specs.Laws.InStep.{nth-replicate}
 use Rattle.claims.specs.History.{acceptedWith}
 use Rattle.claims.specs.Premiums.{receiptIn, Graded, PremiumGiven, PremiumStays, premiumBy, premiumAfter, PremiumsKnown}
 
@@ -148,16 +148,15 @@ data Next (z : Zone) (e : Entry) (r : Receipt) (k : ℕ) (kind : ℕ) (x : Recei
 
 next-receipt : {c : Call} {lo : ℕ} {z : Zone} {n : ℕ} {e : Entry} {r : Receipt} → Linked c lo z n e r → (k : ℕ)
     → Next z e r k (c .kind) (receiptOfNumber (posted z e r .receipts) k)
-unfolding posted receiptOfNumber
 next-receipt {c} {lo} {z} {n} {e} {r} L k = go (ℕ-discrete k (e .lot))
   where
     go : Dec (k ≡ e .lot) → Next z e r k (c .kind) (receiptOfNumber (posted z e r .receipts) k)
     go (yes q) =
         let m : n ≡ k = sym (L .fit .entry .lot) ∙ sym q in
         changed
-        (rw q (nth-put-same noReceipt (z .receipts) (e .lot) r (rw (L .fit .entry .lot) (L .low)) (rw (L .good .sized .receipts, L .fit .entry .lot) (L .high))))
+        (rw q (receipt-at z e r (L .good .sized) (rw (L .fit .entry .lot) (L .low)) (rw (L .fit .entry .lot) (L .high))))
         (subst (λ (j : ℕ). Carries (c .kind) (recordOfReceipt z j) r) m (on-event (carries z (L .good) c n (L .visit)) (L .rule)))
-    go (no n) = same (nth-put-other noReceipt (z .receipts) k (e .lot) r n)
+    go (no n) = same (receipt-beside z e r k n)
 
 -- over an event
 posted-graded : {c : Call} {lo : ℕ} {z : Zone} {n : ℕ} {e : Entry} {r : Receipt} → Linked c lo z n e r → (k : ℕ) (p : Premium)
@@ -214,14 +213,14 @@ other-premium z c G o q k =
 module _ (z : Zone) (c : Call) (G : Good z) (P : PassedAt (withKind c 3) z (c .receipt)) where
   registered-at : receiptOfNumber (effect z (withKind c 3) .zone .receipts) (c .receipt)
       ≡ record { owner = c .account; weight = record { 0 = c .weight }; premium = record { 0 = c .basis }; lot = Idle }
-  unfolding effect opening ending firstLot lotCount sweep ruleOf register posted receiptOfNumber
+  unfolding effect opening ending firstLot lotCount sweep ruleOf register
   registered-at =
       let n : InRange 1 receiptCount (c .receipt) = range-in (ranges P .1 .0) in
-      nth-put-same noReceipt (z .receipts) (c .receipt) _ (n .low) (rw (G .sized .receipts) (n .high))
+      receipt-at z _ _ (G .sized) (n .low) (n .high)
 
   beside : (k : ℕ) → k ≢ c .receipt → receiptOfNumber (effect z (withKind c 3) .zone .receipts) k ≡ receiptOfNumber (z .receipts) k
-  unfolding effect opening ending firstLot lotCount sweep ruleOf register posted receiptOfNumber
-  beside k n = nth-put-other noReceipt (z .receipts) k (c .receipt) _ n
+  unfolding effect opening ending firstLot lotCount sweep ruleOf register
+  beside k n = receipt-beside z _ _ k n
 
 register-graded : (z : Zone) (c : Call) → Good z → c .kind ≡ 3 → numberOn z c ≡ 0 → GradedAt (effect z c .zone) (c .receipt) (record { 0 = c .basis })
 register-graded z c G e q =
@@ -274,13 +273,8 @@ module _ (image : List ℕ) (c : Call) (Z : Zero image c) where
 
 pub premium-given : PremiumGiven
 premium-given image call answer image′ answer′ R k =
-    let C = returned-case image call answer 0 image′ answer′ R in
-    go (C .left) (C .is) refl
-  where
-    go : {n : ℕ} {i a : List ℕ} → Left image (callIn call) answer n i a → 0 ≡ recordNumber image call answer
-        → n ≡ 0 → Graded i (callIn call .receipt) (callIn call .basis)
-    go (refused n) e h = absurd (omega arith)
-    go accepted e h = given image (callIn call) (zero-for image call answer e) k
+    let A = accepted-call image call answer image′ answer′ R in
+    subst (λ (i : List ℕ). Graded i (callIn call .receipt) (callIn call .basis)) (sym (A .image-is)) (given image (callIn call) (A .zero) k)
 
 -- over one call, accepted or refused
 next-graded : {image : List ℕ} (call answer : List ℕ) {number : ℕ} {image′ answer′ : List ℕ} → Left image (callIn call) answer number image′ answer′
@@ -296,15 +290,9 @@ premium-stays start _ _ (next {list} {image} m call answer number image′ answe
 
 -- ── From a fresh image ─────────────────────────────────────────────────────────────────────────
 
-none-at : (n k : ℕ) → getD (replicate n noReceipt) k noReceipt ≡ noReceipt
-none-at zero k = refl
-none-at (suc n) zero = refl
-none-at (suc n) (suc k) = none-at n k
-
 fresh-none : (k : ℕ) → receiptOfNumber (freshZone .receipts) k ≡ noReceipt
-unfolding receiptOfNumber nth freshZone
-fresh-none zero = refl
-fresh-none (suc k) = none-at receiptCount k
+unfolding receiptOfNumber freshZone
+fresh-none k = nth-replicate noReceipt receiptCount k
 
 fresh-premium : (k : ℕ) → receiptIn (encode freshZone) k .premium .0 ≡ pos 0
 fresh-premium k =

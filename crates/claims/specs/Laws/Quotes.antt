@@ -11,7 +11,6 @@ use Rattle.zone.specs.declared.Record.{Record}
 use Rattle.zone.specs.declared.Zone.{Zone}
 use Rattle.zone.specs.Laws.Tests.{both}
 use Rattle.zone.specs.Record.{recordOf}
-use Rattle.zone.specs.Valid.{noReceipt}
 use Rattle.rules.specs.declared.Call.{Call}
 use Rattle.rules.specs.declared.Entry.{Entry}
 use Rattle.rules.specs.declared.View.{View}
@@ -20,8 +19,7 @@ use Rattle.rules.specs.Events.{posted, sweep}
 use Rattle.rules.specs.Laws.Chain.{On, event, only, on-event, taken}
 use Rattle.rules.specs.Laws.Good.{Good}
 use Rattle.rules.specs.Laws.Keeps.{opened, opening-good}
-use Rattle.rules.specs.Laws.Links.{Linked, Walk, good-walk}
-use Rattle.rules.specs.Laws.Tables.{nth-put-other}
+use Rattle.rules.specs.Laws.Links.{Linked, Walk, good-walk, receipt-beside}
 use Rattle.rules.specs.Order.{byPrice, answerOrder}
 use Rattle.rules.specs.View.{receiptOfNumber, viewOf, recordOfReceipt}
 use Rattle.image.specs.Image.{decode}
@@ -30,10 +28,8 @@ use Rattle.answers.specs.Buffers.{callIn, entriesIn}
 use Rattle.calls.specs.Laws.Lots.{all-lots}
 use Rattle.lots.specs.Laws.Visits.{good-decode}
 use Rattle.visits.specs.Laws.Strikes.{by-quote}
-use Rattle.crz.specs.Laws.Returned.{Left, refused, accepted, returned-case}
-use Rattle.crz.specs.Returned.{recordNumber}
 use Rattle.claims.specs.PriceOrder.{EachEntry, Apart, StrikesBid, ByPrice, strikesOf, QuoteByPrice}
-use Rattle.claims.specs.Laws.Demand.{Zero, zero-for, read-back}
+use Rattle.claims.specs.Laws.Demand.{Zero, accepted-call, read-back}
 use Rattle.claims.specs.Laws.Kept.{lots-ordered}
 use Rattle.claims.specs.Laws.Order.{ascending-apart, each-map, permuted-apart, permuted-each, price-permuted, price-descending}
 
@@ -41,7 +37,7 @@ use Rattle.claims.specs.Laws.Order.{ascending-apart, each-map, permuted-
 
 other-record : (z : Zone) (e : Entry) (r : Receipt) (k : ℕ) → k ≢ e .lot → recordOfReceipt (posted z e r) k ≡ recordOfReceipt z k
 unfolding posted receiptOfNumber
-other-record z e r k n = ap recordOf (nth-put-other noReceipt (z .receipts) k (e .lot) r n)
+other-record z e r k n = ap recordOf (receipt-beside z e r k n)
 
 opened-record : (c : Call) (z : Zone) (k : ℕ) → recordOfReceipt (opening c z) k ≡ recordOfReceipt z k
 opened-record c z k = ap (λ (rs : List Receipt). recordOf (receiptOfNumber rs k)) (opened c z .receipts)
@@ -147,13 +143,7 @@ module _ (image : List ℕ) (c : Call) (ok : Zero image c) (k : c .kind ≡ 9) w
 
 pub quote-by-price : QuoteByPrice
 quote-by-price image call answer image′ answer′ R k =
-    let C = returned-case image call answer 0 image′ answer′ R in
-    go (C .left) (C .is) refl
-  where
-    go : {n : ℕ} {i a : List ℕ} → Left image (callIn call) answer n i a → 0 ≡ recordNumber image call answer
-        → n ≡ 0 → ByPrice (decode image) (strikesOf image (callIn call)) (entriesIn a)
-    go (refused n) e h = absurd (omega arith)
-    go accepted e h =
-        let c : Call = callIn call in
-        let Z : Zero image c = zero-for image call answer e in
-        subst (ByPrice (decode image) (strikesOf image c)) (sym (read-back image c Z answer ∙ listed image c Z k)) (by-price image c Z k)
+    let A = accepted-call image call answer image′ answer′ R in
+    let c : Call = callIn call in
+    let Z : Zero image c = A .zero in
+    subst (ByPrice (decode image) (strikesOf image c)) (sym (ap entriesIn (A .answer-is) ∙ read-back image c Z answer ∙ listed image c Z k)) (by-price image c Z k)

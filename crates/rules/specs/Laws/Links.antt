@@ -2,6 +2,7 @@
 -- Assumes nothing.
 use mathlib.Core.Bool.{true, false, true≢false}
 use mathlib.Core.List.{List, [], _∷_}
+use mathlib.Core.Logic.{_≢_}
 use mathlib.Core.Path.{_≡_, refl, sym, _∙_}
 use Prim.Native.Nat.{ℕ, suc, _≤_, _<_}
 use Rattle.units.specs.Ranges.{within, receiptCount, lastDay}
@@ -10,7 +11,7 @@ use Rattle.zone.specs.declared.Record.{Record}
 use Rattle.zone.specs.declared.Zone.{Zone}
 use Rattle.zone.specs.Laws.Tests.{InRange}
 use Rattle.zone.specs.Record.{recordOf}
-use Rattle.zone.specs.Valid.{recordValid}
+use Rattle.zone.specs.Valid.{Sized, recordValid, noReceipt}
 use Rattle.rules.specs.declared.Call.{Call}
 use Rattle.rules.specs.declared.Entry.{Entry}
 use Rattle.rules.specs.declared.AtLot.{AtLot}
@@ -24,9 +25,9 @@ use Rattle.rules.specs.Laws.Good.{Good, valid-at, ask-at}
 use Rattle.rules.specs.Laws.Kinds.{withKind, ByKind, by-kind}
 use Rattle.rules.specs.Laws.Offers.{FitsAt, register-fit, list-fit, withdrawListing-fit, limitBid-fit, marketBid-fit, withdrawBid-fit, quote-fit, dayClose-fit}
 use Rattle.rules.specs.Laws.Passed.{PassedAt, kind-in}
-use Rattle.rules.specs.Laws.Tables.{among-each}
+use Rattle.rules.specs.Laws.Tables.{among-each, nth-put-same, nth-put-other}
 use Rattle.rules.specs.Laws.Trades.{lodge-fit, close-fit, payFirst-fit, invoice-fit, confirm-fit}
-use Rattle.rules.specs.View.{recordOfReceipt}
+use Rattle.rules.specs.View.{receiptOfNumber, recordOfReceipt}
 
 -- a kind that does not go through all lots has passed the tests at the lot it visits
 pub tested : {c : Call} {z : Zone} {n : ℕ} → sweeps (c .kind) ≡ false → Visit c z n → PassedAt c z n
@@ -105,6 +106,15 @@ after-good z G c n a h v = go (ruleAt c z n) (fits z G c n v)
     go : (s : AtLot) → FitsAt z n (recordOfReceipt z n) s → Good (afterLot z s .zone)
     go NoEvent F = G
     go (Event e r) F = good-stays z n e r a h G (F .is)
+
+-- the receipt of the event's lot after it, and any other
+pub receipt-at : (z : Zone) (e : Entry) (r : Receipt) → Sized z → 0 < e .lot → e .lot ≤ receiptCount → receiptOfNumber (posted z e r .receipts) (e .lot) ≡ r
+unfolding posted receiptOfNumber
+receipt-at z e r S low high = nth-put-same noReceipt (z .receipts) (e .lot) r low (rw (S .receipts) high)
+
+pub receipt-beside : (z : Zone) (e : Entry) (r : Receipt) (k : ℕ) → k ≢ e .lot → receiptOfNumber (posted z e r .receipts) k ≡ receiptOfNumber (z .receipts) k
+unfolding posted receiptOfNumber
+receipt-beside z e r k n = nth-put-other noReceipt (z .receipts) k (e .lot) r n
 
 -- A claim about chains from a good zone: it holds where there is no event, and over an event where it holds after it.
 pub record Walk (c : Call) (P : ℕ → Zone → List Entry → Zone → Type 0) : Type 0 where

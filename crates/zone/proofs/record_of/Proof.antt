@@ -16,8 +16,8 @@ no-listing-requires c κs = search needs
 no-bid-requires : tie.Need-no-bid-requires
 no-bid-requires c κs = search needs
 
-offer-record-requires : tie.Need-offer-record-requires
-offer-record-requires c κs = search needs
+untraded-record-requires : tie.Need-untraded-record-requires
+untraded-record-requires c κs = search needs
 
 enum-known-lot : tie.Need-enum-known-lot
 enum-known-lot c = search needs
@@ -25,14 +25,14 @@ enum-known-lot c = search needs
 no-bid-requires-2 : tie.Need-no-bid-requires-2
 no-bid-requires-2 c κs = search needs
 
-offer-record-requires-2 : tie.Need-offer-record-requires-2
-offer-record-requires-2 c κs = search needs
+untraded-record-requires-2 : tie.Need-untraded-record-requires-2
+untraded-record-requires-2 c κs = search needs
 
 enum-known-lot-2 : tie.Need-enum-known-lot-2
 enum-known-lot-2 c = search needs
 
-offer-record-requires-3 : tie.Need-offer-record-requires-3
-offer-record-requires-3 c κs = search needs
+untraded-record-requires-3 : tie.Need-untraded-record-requires-3
+untraded-record-requires-3 c κs = search needs
 
 enum-known-lot-3 : tie.Need-enum-known-lot-3
 enum-known-lot-3 c = search needs
@@ -66,15 +66,15 @@ penalty-record-requires c κs = search needs
 
 returns : tie.Need-returns
 unfolding recordOf
-returns c = rw (c .offer-record .ensures, c .before .before .no-listing .ensures, c .before .no-bid .ensures, c .before .before .before .enum-told .given .1)
+returns c = rw (c .untraded-record .ensures, c .before .before .no-listing .ensures, c .before .no-bid .ensures, c .before .before .before .enum-told .given .1)
 
 returns-2 : tie.Need-returns-2
 unfolding recordOf
-returns-2 c = rw (c .offer-record2 .ensures, c .before .no-bid2 .ensures, c .before .before .before .lot .given .1)
+returns-2 c = rw (c .untraded-record2 .ensures, c .before .no-bid2 .ensures, c .before .before .before .lot .given .1)
 
 returns-3 : tie.Need-returns-3
 unfolding recordOf
-returns-3 c = rw (c .offer-record3 .ensures, c .before .before .lot2 .given .1)
+returns-3 c = rw (c .untraded-record3 .ensures, c .before .before .lot2 .given .1)
 
 returns-4 : tie.Need-returns-4
 unfolding recordOf
@@ -104,12 +104,12 @@ record-of-spec =
     enum-told
     no-listing-requires
     no-bid-requires
-    offer-record-requires
+    untraded-record-requires
     enum-known-lot
     no-bid-requires-2
-    offer-record-requires-2
+    untraded-record-requires-2
     enum-known-lot-2
-    offer-record-requires-3
+    untraded-record-requires-3
     enum-known-lot-3
     trade-record-requires
     enum-known-lot-4
