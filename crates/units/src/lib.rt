@@ -1,8 +1,9 @@
 // Yuan per tonne, fen and kilograms as types, the ranges of numbers, and the money of a trade.
 ghost use mathlib.Core.Path.{_≡_};
 ghost use Prim.Native.Nat.{_+_, _≤_, _<_, _^_};
+ghost use lib.Dec.{eqb};
 ghost use Rattle.units.specs.Ranges.{isZero, isAccount, isReceipt, isContract, isDays, isPrice, isAsk, mostWeight, isBasis, isPremium, isWeight, isAmount};
-ghost use Rattle.units.specs.Payments.{unitPrice, atLeast0, payable, fullPayment, firstPayment, restPayment, partPayment, deposit, penaltyPassed};
+ghost use Rattle.units.specs.Payments.{unitPrice, atLeast0, payable, fullPayment, firstPayment, restPayment, paidSoFar, partPayment, deposit, penaltyPassed};
 
 // A price: whole yuan per tonne.
 pub struct YuanPerTonne(pub u32);
@@ -156,19 +157,39 @@ pub fn rest_payment(full: Fen) -> Fen
     Fen(rest)
 }
 
-// What the confirmation of an invoice pays, where `confirmed` and `paid` stand before it.
-pub fn part_payment(full: Fen, confirmed: Fen, paid: Fen, invoice: Fen) -> Fen
-    requires { ⌜ (full .0 < 2 ^ 32) × (0 < invoice .0) × (confirmed .0 + invoice .0 ≤ full .0) × (paid .0 ≤ restPayment full .0) ⌝ }
-    ensures { λ r. ⌜ r ≡ partPayment full confirmed paid invoice ⌝ }
+// Of the rest, what invoices confirmed up to this sum have been paid together.
+pub fn paid_so_far(full: Fen, confirmed: Fen) -> Fen
+    requires { ⌜ (full .0 < 2 ^ 32) × (0 < full .0) × (confirmed .0 ≤ full .0) ⌝ }
+    ensures { λ r. ⌜ r ≡ paidSoFar full confirmed ⌝ }
+{
+    let rest = rest_payment(full).0;
+    Fen(rest * confirmed.0 / full.0)
+}
+
+// Whether `paid` is that. Products are compared, because they cost less than a division.
+pub fn is_paid_so_far(full: Fen, confirmed: Fen, paid: Fen) -> bool
+    requires { ⌜ (full .0 < 2 ^ 32) × (confirmed .0 < full .0) ⌝ }
+    ensures { λ r. ⌜ r ≡ eqb (paid .0) (paidSoFar full confirmed .0) ⌝ }
 {
     let rest = rest_payment(full).0;
     let all = full.0;
-    let new = invoice.0;
-    let unpaid = rest - paid.0;
-    if confirmed.0 + new == all {
-        return Fen(unpaid);
+    let sum = confirmed.0;
+    let so_far = paid.0;
+    if rest < so_far {
+        return false;
     }
-    Fen(rest * new / all)
+    let share = rest * sum;
+    let least = so_far * all;
+    (least <= share) & (share < least + all)
+}
+
+// What the confirmation of an invoice pays, where `confirmed` and `paid` stand before it.
+pub fn part_payment(full: Fen, confirmed: Fen, paid: Fen, invoice: Fen) -> Fen
+    requires { ⌜ (full .0 < 2 ^ 32) × (0 < invoice .0) × (confirmed .0 + invoice .0 ≤ full .0) × (paid .0 ≡ paidSoFar full confirmed .0) ⌝ }
+    ensures { λ r. ⌜ r ≡ partPayment full confirmed paid invoice ⌝ }
+{
+    let all_paid = paid_so_far(full, Fen(confirmed.0 + invoice.0)).0;
+    Fen(all_paid - paid.0)
 }
 
 // Frozen from the buyer for each receipt bid on.

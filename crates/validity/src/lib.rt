@@ -148,27 +148,24 @@ pub fn full_of(r: Record) -> Fen
     units::full_payment(price, basis, premium, weight)
 }
 
-// The tests go in an order in which no sum and no product can wrap. A product is compared, because it costs less than a division.
+// The tests go in an order in which no sum can wrap.
 fn invoices_within(r: Record) -> bool
     requires { ⌜ (r .state ≡ 6) × (fieldsOk r ≡ true) ⌝ }
     ensures { λ x. ⌜ x ≡ invoicesWithin r ⌝ }
 {
     let full = full_of(r);
-    let rest = units::rest_payment(full).0;
+    let confirmed = r.confirmed;
+    let paid = r.paid;
     let all = full.0;
-    let confirmed = r.confirmed.0;
+    let sum = r.confirmed.0;
     let pending = r.pending.0;
-    let paid = r.paid.0;
-    if all <= confirmed {
+    if all <= sum {
         return false;
     }
     if all < pending {
         return false;
     }
-    if rest < paid {
-        return false;
-    }
-    (confirmed + pending <= all) & (paid * all <= rest * confirmed)
+    (sum + pending <= all) & units::is_paid_so_far(full, confirmed, paid)
 }
 
 pub fn record_ok(r: Record) -> bool
@@ -194,6 +191,7 @@ pub fn ask_ok(ask: YuanPerTonne) -> bool
 
 // ── What a lot holds ────────────────────────────────────────────────────────────────────────────
 
+// In state 6 the record has what was paid, so that nothing is divided again.
 pub fn hold_of(r: Record) -> Hold
     requires { ⌜ recordValid r ≡ true ⌝ }
     ensures { λ x. ⌜ x ≡ holdOf r ⌝ }

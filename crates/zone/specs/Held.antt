@@ -1,4 +1,4 @@
--- The money of a lot: full payment and rest of its trade, and what it holds frozen, from whom (01 Image 15).
+-- The money of a lot: full payment and rest of its trade, and what it holds frozen, from whom (01 Image 15, 02 3/12).
 -- Assumes nothing.
 use mathlib.Core.Bool.{cond}
 use mathlib.Core.List.{List, [], _∷_}
@@ -6,7 +6,7 @@ use Prim.Native.Nat.{ℕ, _+_, _-_}
 use lib.Dec.{eqb}
 use Rattle.units.specs.declared.Fen.{Fen}
 use Rattle.units.specs.Ranges.{within}
-use Rattle.units.specs.Payments.{fen, fullPayment, restPayment, deposit}
+use Rattle.units.specs.Payments.{fen, fullPayment, restPayment, paidSoFar, deposit}
 use Rattle.zone.specs.declared.Account.{Account}
 use Rattle.zone.specs.declared.Hold.{Hold}
 use Rattle.zone.specs.declared.Record.{Record}
@@ -19,13 +19,13 @@ full r = fullPayment (r .price) (r .basis) (r .premium) (r .weight)
 abbrev pub rest : Record → Fen
 rest r = restPayment (full r)
 
--- What the lot holds: the deposit in states 2 to 4, full once it is settled, then the rest that is not paid yet.
--- Nothing is taken that is not there: `paid-le-rest` (Laws/Held).
+-- What the lot holds: the deposit in states 2 to 4, full once it is settled, then the rest less what its confirmed invoices have been paid (02 3/12).
+-- Nothing is taken that is not there: `so-far-le-rest` (units, Laws/Bounds).
 unfoldable pub held : Record → Fen
 held r =
     cond (within 2 4 (r .state)) deposit
     (cond (eqb (r .state) 5) (full r)
-    (cond (eqb (r .state) 6) (fen (rest r .0 - r .paid .0))
+    (cond (eqb (r .state) 6) (fen (rest r .0 - paidSoFar (full r) (r .confirmed) .0))
     (fen 0)))
 
 -- from whom, and how much: a lot holds from its buyer

@@ -1,22 +1,22 @@
--- When an image is valid (01 Image 7 to 15, with the premium of 02 2/12), said of the fields that an image or a zone has.
+-- When an image is valid (01 Image 7 to 15, with the premium of 02 2/12 and the parts of 02 3/12), said of the fields that an image or a zone has.
 -- Assumes nothing.
 use mathlib.Core.Bool.{Bool, true, false, cond, not, _&&_, _||_}
 use mathlib.Core.List.{List, [], _∷_}
 use mathlib.Core.Path.{_≡_}
-use Prim.Native.Nat.{ℕ, suc, _+_, _*_, _/_}
+use Prim.Native.Nat.{ℕ, suc, _+_}
 use lib.Dec.{eqb, leb, ltb}
 use lib.IntN.{pos}
 use lib.ListN.{length, replicate}
 use Rattle.units.specs.declared.Fen.{Fen}
 use Rattle.units.specs.declared.YuanPerTonne.{YuanPerTonne}
-use Rattle.units.specs.Payments.{fen, payable}
+use Rattle.units.specs.Payments.{fen, payable, paidSoFar}
 use Rattle.units.specs.Ranges.{within, isZero, accountCount, receiptCount, contractCount, isAccount, isContract, isDays, isPrice, isAsk, isBasis, isPremium, isWeight, moneyLimit, lastDay, lastDue}
 use Rattle.zone.specs.declared.Account.{Account}
 use Rattle.zone.specs.declared.Lot.the-variants.{Idle}
 use Rattle.zone.specs.declared.Receipt.{Receipt}
 use Rattle.zone.specs.declared.Record.{Record}
 use Rattle.zone.specs.declared.Zone.{Zone}
-use Rattle.zone.specs.Held.{full, rest, heldSum, allMoney}
+use Rattle.zone.specs.Held.{full, heldSum, allMoney}
 use Rattle.zone.specs.Record.{recordOf}
 
 -- A field that some states fill (01 Image 7, 14): there it is in its range, and in the others it is zero.
@@ -62,11 +62,11 @@ ownerOk r =
     inStates (within 1 4 (r .state) || eqb (r .state) 7) (eqb (r .owner) (r .seller))
     && inStates (within 5 6 (r .state)) (eqb (r .owner) (r .buyer))
 
--- state 6: not all is confirmed, the pending invoice fits, and no more was paid than the share of what is confirmed
+-- state 6: not all is confirmed, the pending invoice fits, and paid is what the confirmed sum is paid of the rest (02 3/12)
 unfoldable pub invoicesWithin : Record → Bool
 invoicesWithin r =
     ltb (r .confirmed .0) (full r .0) && leb (r .confirmed .0 + r .pending .0) (full r .0)
-    && leb (r .paid .0) (rest r .0 * r .confirmed .0 / full r .0)
+    && eqb (r .paid .0) (paidSoFar (full r) (r .confirmed) .0)
 
 -- every other state has no invoices
 unfoldable pub noInvoicesOk : Record → Bool

@@ -1,13 +1,12 @@
 -- Bounds of the payments, each proved once.
 -- Assumes nothing.
 use mathlib.Core.Bool.{Bool, true, false, cond}
-use mathlib.Core.Path.{_≡_, refl}
+use mathlib.Core.Path.{_≡_, ap, _∙_}
 use Prim.Native.Nat.{ℕ, suc, _+_, _-_, _*_, _/_, _≤_, _<_}
-use native.Mathlib.Nat.{mul-le-mul, mul-le-mul-left, add-mul, mul-add, mul-comm, div-mul-le-self, div-le-of-le-mul, le-div-iff-mul-le}
+use native.Mathlib.Nat.{mul-le-mul, mul-le-mul-left, mul-comm, mul-zero, zero-div, mul-div-cancel, div-mul-le-self, div-le-of-le-mul, le-div-iff-mul-le}
 use native.Mathlib.Omega.{arith}
-use borrow.Author.Tests.{leb-true, eqb-true, eqb-false, eq-eqb, ne-eqb}
-use mathlib.Core.Logic.{_≢_}
-use lib.Dec.{ltb, eqb}
+use borrow.Author.Tests.{leb-true}
+use lib.Dec.{ltb}
 use lib.IntN.{ℤ, pos, negsuc, _+ℤ_}
 use lib.Signed.{leZ}
 use Rattle.units.specs.declared.Basis.{Basis}
@@ -16,7 +15,7 @@ use Rattle.units.specs.declared.Kilograms.{Kilograms}
 use Rattle.units.specs.declared.Premium.{Premium}
 use Rattle.units.specs.declared.YuanPerTonne.{YuanPerTonne}
 use Rattle.units.specs.Ranges.{mostPrice, mostBasis, mostPremium, mostWeight, leastWeight}
-use Rattle.units.specs.Payments.{unitPrice, payable, atLeast0, fullPayment, firstPayment, restPayment, partPayment, penaltyPassed, perReceipt}
+use Rattle.units.specs.Payments.{fen, unitPrice, payable, atLeast0, fullPayment, firstPayment, restPayment, paidSoFar, partPayment, penaltyPassed, perReceipt}
 
 -- ── price + basis + premium ────────────────────────────────────────────────────────────────────
 
@@ -90,48 +89,35 @@ first-rest full = omega (arith, first-le full)
 
 -- ── the parts of the rest ──────────────────────────────────────────────────────────────────────
 
--- what confirmed invoices of c may have been paid at most: rest × c div full
-abbrev pub paidBound : Fen → ℕ → ℕ
-paidBound full c = restPayment full .0 * c / full .0
+-- nothing confirmed, nothing paid
+pub so-far-none : (full : Fen) → paidSoFar full (fen 0) .0 ≡ 0
+unfolding paidSoFar
+so-far-none full = ap (λ (n : ℕ). n / full .0) (mul-zero (restPayment full .0)) ∙ zero-div (full .0)
 
--- the bound never passes the rest
-pub bound-le-rest : (full : Fen) (c : ℕ) → c ≤ full .0 → paidBound full c ≤ restPayment full .0
-bound-le-rest full c h =
+-- all confirmed, the whole rest paid
+pub so-far-full : (full : Fen) → 0 < full .0 → paidSoFar full full .0 ≡ restPayment full .0
+unfolding paidSoFar
+so-far-full full h = mul-div-cancel (restPayment full .0) h
+
+-- more confirmed, no less paid
+pub so-far-up : (full c d : Fen) → 0 < full .0 → c .0 ≤ d .0 → paidSoFar full c .0 ≤ paidSoFar full d .0
+unfolding paidSoFar
+so-far-up full c d some h =
+    le-div-iff-mul-le some .1
+    (omega (arith, div-mul-le-self (restPayment full .0 * c .0) (full .0), mul-le-mul-left (restPayment full .0) h))
+
+-- never more than the rest
+pub so-far-le-rest : (full c : Fen) → c .0 ≤ full .0 → paidSoFar full c .0 ≤ restPayment full .0
+unfolding paidSoFar
+so-far-le-rest full c h =
     div-le-of-le-mul (full .0) (rw (mul-comm (full .0) (restPayment full .0)) (mul-le-mul-left (restPayment full .0) h))
 
--- two quotients of parts are at most the quotient of the sum
-quotients : (a b k : ℕ) → 0 < k → a / k + b / k ≤ (a + b) / k
-quotients a b k h =
-    le-div-iff-mul-le h .1 (rw (add-mul (a / k) (b / k) k) (omega (arith, div-mul-le-self a k, div-mul-le-self b k)))
-
--- an invoice that does not reach full keeps paid within the bound
-pub part-keeps-bound : (full confirmed paid invoice : Fen) → 0 < full .0 → confirmed .0 + invoice .0 < full .0 →
-    paid .0 ≤ paidBound full (confirmed .0) →
-    paid .0 + partPayment full confirmed paid invoice .0 ≤ paidBound full (confirmed .0 + invoice .0)
+-- a confirmation brings what was paid to what the new sum is paid
+pub part-brings : (full confirmed paid invoice : Fen) → 0 < full .0 → paid .0 ≡ paidSoFar full confirmed .0 →
+    paid .0 + partPayment full confirmed paid invoice .0 ≡ paidSoFar full (fen (confirmed .0 + invoice .0)) .0
 unfolding partPayment
-part-keeps-bound full confirmed paid invoice some h hp =
-    rw (ne-eqb (confirmed .0 + invoice .0) (full .0) (λ e. omega arith), mul-add (restPayment full .0) (confirmed .0) (invoice .0))
-    (omega (arith, quotients (restPayment full .0 * confirmed .0) (restPayment full .0 * invoice .0) (full .0) some))
-
--- the last invoice brings paid to the rest
-pub last-part : (full confirmed paid invoice : Fen) → confirmed .0 + invoice .0 ≡ full .0 → paid .0 ≤ restPayment full .0 →
-    paid .0 + partPayment full confirmed paid invoice .0 ≡ restPayment full .0
-unfolding partPayment
-last-part full confirmed paid invoice e hp = rw (eq-eqb (confirmed .0 + invoice .0) (full .0) e) (omega arith)
-
--- no part passes what is left of the rest
-pub part-le-rest : (full confirmed paid invoice : Fen) → 0 < full .0 → confirmed .0 + invoice .0 ≤ full .0 →
-    paid .0 ≤ paidBound full (confirmed .0) → paid .0 + partPayment full confirmed paid invoice .0 ≤ restPayment full .0
-part-le-rest full confirmed paid invoice some h hp = go (eqb (confirmed .0 + invoice .0) (full .0)) refl
-  where
-    go : (b : Bool) → eqb (confirmed .0 + invoice .0) (full .0) ≡ b →
-        paid .0 + partPayment full confirmed paid invoice .0 ≤ restPayment full .0
-    go true e =
-        let q : confirmed .0 + invoice .0 ≡ full .0 = eqb-true _ _ e in
-        omega (arith, bound-le-rest full (confirmed .0) (omega arith), last-part full confirmed paid invoice q (omega (arith, bound-le-rest full (confirmed .0) (omega arith))))
-    go false e =
-        let q : confirmed .0 + invoice .0 ≢ full .0 = eqb-false _ _ e in
-        omega (arith, part-keeps-bound full confirmed paid invoice some (omega arith) hp, bound-le-rest full (confirmed .0 + invoice .0) h)
+part-brings full confirmed paid invoice some h =
+    omega (arith, h, so-far-up full confirmed (fen (confirmed .0 + invoice .0)) some (omega arith))
 
 -- ── the penalty ────────────────────────────────────────────────────────────────────────────────
 

@@ -12,8 +12,7 @@ use lib.IntN.{pos}
 use Rattle.units.specs.declared.Fen.{Fen}
 use Rattle.units.specs.declared.Kilograms.{Kilograms}
 use Rattle.units.specs.declared.Premium.{Premium}
-use Rattle.units.specs.Payments.{fen, payable}
-use Rattle.units.specs.Laws.Bounds.{paidBound}
+use Rattle.units.specs.Payments.{fen, payable, paidSoFar}
 use Rattle.units.specs.Ranges.{within, isPrice, isBasis, isPremium, accountCount, contractCount, mostPrice, mostWeight, lastDue, mostDays, leastWeight}
 use Rattle.zone.specs.declared.Bid.{Bid}
 use Rattle.zone.specs.declared.Invoices.{Invoices}
@@ -49,7 +48,7 @@ pub record OwnerAt (n owner seller buyer : ℕ) : Type 0 where
 pub record InvoicesIn (full : Fen) (i : Invoices) : Type 0 where
   pub confirmed : i .confirmed .0 < full .0
   pub pending : i .confirmed .0 + i .pending .0 ≤ full .0
-  pub paid : i .paid .0 ≤ paidBound full (i .confirmed .0)
+  pub paid : i .paid .0 ≡ paidSoFar full (i .confirmed) .0
 
 -- the owner, the weight and the premium of a registered receipt
 pub record Owned (o : ℕ) (w : Kilograms) (p : Premium) : Type 0 where
@@ -137,7 +136,7 @@ module _ (r : Record) where
       go true h =
           let t1 = both _ _ h in
           let t2 = both _ _ (t1 .0) in
-          fills refl (record { confirmed = ltb-true _ _ (t2 .0); pending = leb-true _ _ (t2 .1); paid = leb-true _ _ (t1 .1) })
+          fills refl (record { confirmed = ltb-true _ _ (t2 .0); pending = leb-true _ _ (t2 .1); paid = eqb-true _ _ (t1 .1) })
       go false h =
           let t1 = both _ _ h in
           let t2 = both _ _ (t1 .0) in
@@ -192,7 +191,7 @@ module _ (r : Record) where
       go : (s : Bool) → Filled s (InvoicesIn (full r) (invoicesOf r)) (noInvoices ≡ invoicesOf r) → cond s (invoicesWithin r) (noInvoicesOk r) ≡ true
       go true F =
           let I = F .yes refl in
-          join (join (lt-ltb _ _ (I .confirmed)) (le-leb _ _ (I .pending))) (le-leb _ _ (I .paid))
+          join (join (lt-ltb _ _ (I .confirmed)) (le-leb _ _ (I .pending))) (eq-eqb _ _ (I .paid))
       go false F =
           let e = F .no refl in
           join

@@ -12,8 +12,8 @@ use borrow.Author.Tests.{eq-eqb, ne-eqb}
 use lib.Dec.{eqb}
 use lib.ListN.{length, getD, set}
 use Rattle.units.specs.declared.Fen.{Fen}
-use Rattle.units.specs.Payments.{fen, restPayment, deposit}
-use Rattle.units.specs.Laws.Bounds.{full-at-most, full-at-least, first-rest, bound-le-rest, mostFull}
+use Rattle.units.specs.Payments.{fen, restPayment, paidSoFar, deposit}
+use Rattle.units.specs.Laws.Bounds.{full-at-most, full-at-least, first-rest, so-far-le-rest, mostFull}
 use Rattle.units.specs.Ranges.{within, mostBasis, mostPremium}
 use Rattle.zone.specs.declared.Account.{Account}
 use Rattle.zone.specs.declared.Invoices.{Invoices}
@@ -46,7 +46,7 @@ rest-le f = omega (arith, first-rest f)
 
 -- what the invoices have paid is part of the rest
 pub paid-le-rest : (f : Fen) (i : Invoices) → InvoicesIn f i → i .paid .0 ≤ restPayment f .0
-paid-le-rest f i I = omega (arith, I .confirmed, I .paid, bound-le-rest f (i .confirmed .0) (omega (arith, I .confirmed)))
+paid-le-rest f i I = omega (arith, I .paid, so-far-le-rest f (i .confirmed) (omega (arith, I .confirmed)))
 
 -- no invoice passes the largest full payment
 pub record InvoiceBounds (r : Record) : Type 0 where
@@ -81,7 +81,7 @@ pub held-le : (r : Record) → recordValid r ≡ true → held r .0 ≤ mostFull
 unfolding held
 held-le r h = go (within 2 4 (r .state)) (eqb (r .state) 5) (eqb (r .state) 6) (full-le r (bounds r h))
   where
-    go : (a b c : Bool) → full r .0 ≤ mostFull → cond a deposit (cond b (full r) (cond c (fen (rest r .0 - r .paid .0)) (fen 0))) .0 ≤ mostFull
+    go : (a b c : Bool) → full r .0 ≤ mostFull → cond a deposit (cond b (full r) (cond c (fen (rest r .0 - paidSoFar (full r) (r .confirmed) .0)) (fen 0))) .0 ≤ mostFull
     go true b c f = omega arith
     go false true c f = f
     go false false true f = omega (arith, rest-le (full r))
