@@ -39,12 +39,12 @@ dueAfter calls = recordAfter 7 calls .due
 pub record FourteenExamples : Type 0 where
   -- 1, 2, 3 and 6
   pub money : MoneyExamples
-  -- 4, the parts of three invoices: 6, 6 and 8
+  -- 4, the parts of three invoices, as 02 3/12 has them: 6, 7 and 7
   pub four : run 1000 (negsuc 3) 5000000
       (bids 2 7 5 ∷ quote 1 5 ∷ lodges 1 7 ∷ morningClose ∷ takesFirstPayment 1 7 ∷ sendsInvoice 1 7 33 ∷ confirms 2 7 ∷ sendsInvoice 1 7 33 ∷ confirms 2 7
       ∷ sendsInvoice 1 7 34 ∷ confirms 2 7 ∷ [])
       ≡ opened ++ (oneEntry 7 4 2 1 5 ∷ oneEntry 7 6 2 1 5 ∷ oneEntry 7 7 1 2 0 ∷ oneEntry 7 8 2 1 100 ∷ oneEntry 7 9 2 1 80 ∷ oneEntry 7 10 1 2 33 ∷ oneEntry 7 11 2 1 6
-      ∷ oneEntry 7 10 1 2 33 ∷ oneEntry 7 11 2 1 6 ∷ oneEntry 7 10 1 2 34 ∷ oneEntry 7 11 2 1 8 ∷ [])
+      ∷ oneEntry 7 10 1 2 33 ∷ oneEntry 7 11 2 1 7 ∷ oneEntry 7 10 1 2 34 ∷ oneEntry 7 11 2 1 7 ∷ [])
   -- 5, nothing to pay
   pub five : run 1000 (negsuc 4) 5000000 (bids 2 7 5 ∷ []) ≡ opened ++ (refusedWith 10 ∷ [])
   -- 7, a price between the steps

@@ -7,4 +7,5 @@ pub mod Values
 pub mod Demand
 pub mod Quotes
 pub mod Premiums
+pub mod Cutting
 pub mod RoundTrips

@@ -10,4 +10,5 @@ pub mod Traps
 pub mod StrikesListed
 pub mod Premiums
 pub mod PremiumTrades
+pub mod Cutting
 pub mod Laws

@@ -2,7 +2,7 @@
 -- Assumes nothing.
 use mathlib.Core.List.{List, [], _∷_}
 use Prim.Native.Nat.{ℕ}
-use Rattle.units.specs.Payments.{unitPrice, payable, fullPayment, firstPayment, restPayment, partPayment, penaltyPassed}
+use Rattle.units.specs.Payments.{unitPrice, payable, fullPayment, firstPayment, restPayment, paidSoFar, partPayment, penaltyPassed}
 use Rattle.zone.specs.declared.Record.{Record}
 use Rattle.zone.specs.declared.Zone.{Zone}
 use Rattle.zone.specs.Held.{full, held, fenFrom, heldFrom}
@@ -21,7 +21,7 @@ use Rattle.claims.specs.History.{Reply, refusedWith, acceptedWith}
 
 -- the reply to a call, and the zone after it
 unfoldable pub replyTo : Zone → Call → Reply × Zone
-unfolding stepAt firstNumber illFormed outOfRange wrongPhase wrongState wrongParty notAbove lacksAsk notPayable lacksMoney aboveLimit aboveInvoice effect answerOrder byPrice putIn standsBefore opening ending firstLot lotCount ruleOf register listFor withdrawListing limitBid marketBid withdrawBid quoteLot lodge closeLot payFirst sendInvoice confirm dayCloseLot noRule credit debit release freeze moneyOf accountsAfter posted sweep nth put freeOf frozenOf receiptOfNumber askOf viewOf fenFrom held full heldFrom recordOf unitPrice payable fullPayment firstPayment restPayment partPayment penaltyPassed
+unfolding stepAt firstNumber illFormed outOfRange wrongPhase wrongState wrongParty notAbove lacksAsk notPayable lacksMoney aboveLimit aboveInvoice effect answerOrder byPrice putIn standsBefore opening ending firstLot lotCount ruleOf register listFor withdrawListing limitBid marketBid withdrawBid quoteLot lodge closeLot payFirst sendInvoice confirm dayCloseLot noRule credit debit release freeze moneyOf accountsAfter posted sweep nth put freeOf frozenOf receiptOfNumber askOf viewOf fenFrom held full heldFrom recordOf unitPrice payable fullPayment firstPayment restPayment paidSoFar partPayment penaltyPassed
 replyTo z c =
     elim (stepOn z c) [ Refused n ↦ (refusedWith n, z) | Accepted a ↦ (acceptedWith (effect z c .entries), effect z c .zone) ]
 

@@ -164,7 +164,7 @@ confirmedLot f whole part =
     cond (eqb confirmed (whole .0)) Idle
     (FirstPaid (tradeOf f) (record { pending = fen 0; confirmed = fen confirmed; paid = fen (f .paid .0 + part .0) }))
 
--- 14 confirm (01 Calls 24); the number is the fen paid (article 17)
+-- 14 confirm (01 Calls 24, 02 3/12); the number is the fen paid (article 17)
 unfoldable pub confirm : ℕ → Record → AtLot
 confirm n f =
     let part : Fen = partPayment (full f) (f .confirmed) (f .paid) (f .pending) in

@@ -10,7 +10,7 @@ use borrow.Author.Tests.{lt-leb, le-leb, ne-eqb}
 use lib.Dec.{eqb}
 use lib.ListN.{length, getD}
 use Rattle.units.specs.declared.Fen.{Fen}
-use Rattle.units.specs.Payments.{fen, deposit, firstPayment, restPayment}
+use Rattle.units.specs.Payments.{fen, deposit, firstPayment, restPayment, paidSoFar}
 use Rattle.units.specs.Ranges.{within}
 use Rattle.zone.specs.declared.Receipt.{Receipt}
 use Rattle.zone.specs.declared.Record.{Record}
@@ -72,7 +72,7 @@ KnowsAt (suc (suc zero)) f p = Deposit 4 (f .buyer) p × Own (f .buyer) p
 KnowsAt (suc (suc (suc zero))) f p = Deposit 6 (f .buyer) p
 KnowsAt (suc (suc (suc (suc zero)))) f p = Deposit 7 (f .buyer) p
 KnowsAt (suc (suc (suc (suc (suc zero))))) f p = Unpaid (f .buyer) (full f .0) 0 p
-KnowsAt (suc (suc (suc (suc (suc (suc zero)))))) f p = Unpaid (f .buyer) (full f .0) (firstPayment (full f) .0 + f .paid .0) p
+KnowsAt (suc (suc (suc (suc (suc (suc zero)))))) f p = Unpaid (f .buyer) (full f .0) (firstPayment (full f) .0 + paidSoFar (full f) (f .confirmed) .0) p
 KnowsAt (suc (suc (suc (suc (suc (suc (suc n))))))) f p = Nil p
 
 -- whatever the state: whom the receipt belongs to, that a buyer came after a registration, and that no more was paid than settled
@@ -103,7 +103,7 @@ left-held x b n m p l = rw (l .last, l .paying, l .buyer, l .full, l .since)
 
 -- what a record holds, its state apart
 abbrev heldAt : ℕ → Record → Fen
-heldAt n f = cond (within 2 4 n) deposit (cond (eqb n 5) (full f) (cond (eqb n 6) (fen (rest f .0 - f .paid .0)) (fen 0)))
+heldAt n f = cond (within 2 4 n) deposit (cond (eqb n 5) (full f) (cond (eqb n 6) (fen (rest f .0 - paidSoFar (full f) (f .confirmed) .0)) (fen 0)))
 
 at-held : (n : ℕ) (f : Record) (p : Past) → KnowsAt n f p → (x : ℕ) → heldIn x p ≡ fenOf x (f .buyer) (heldAt n f .0)
 unfolding restPayment

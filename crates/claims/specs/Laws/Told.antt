@@ -10,8 +10,8 @@ use native.Mathlib.Omega.{arith}
 use borrow.Author.Tests.{eqb-true, eq-eqb, ne-eqb, not-true, not-false}
 use lib.Dec.{eqb, leb}
 use Rattle.units.specs.declared.Fen.{Fen}
-use Rattle.units.specs.Payments.{fen, firstPayment}
-use Rattle.units.specs.Laws.Bounds.{first-le, last-part}
+use Rattle.units.specs.Payments.{fen, firstPayment, paidSoFar}
+use Rattle.units.specs.Laws.Bounds.{first-le, so-far-none}
 use Rattle.units.specs.Ranges.{accountCount}
 use Rattle.zone.specs.declared.Bid.{Bid}
 use Rattle.zone.specs.declared.Invoices.{Invoices}
@@ -21,9 +21,8 @@ use Rattle.zone.specs.declared.Record.{Record}
 use Rattle.zone.specs.declared.Zone.{Zone}
 use Rattle.zone.specs.Held.{full}
 use Rattle.zone.specs.Laws.Facts.{owner-some}
-use Rattle.zone.specs.Laws.Held.{paid-le-rest}
 use Rattle.zone.specs.Laws.Tests.{both, InRange, range-in}
-use Rattle.zone.specs.Record.{recordOf, bidOf, tradeOf, invoicesOf}
+use Rattle.zone.specs.Record.{recordOf, bidOf, tradeOf}
 use Rattle.zone.specs.Valid.{recordValid}
 use Rattle.rules.specs.declared.AtLot.the-variants.{Event}
 use Rattle.rules.specs.declared.Call.{Call}
@@ -169,7 +168,7 @@ module _ (c : Call) (v : View) (p : Past) (n : ℕ) (f : Record) (K : Known f p)
   payFirst-told e =
       let L = known-at K 5 e in
       let first : Fen = firstPayment (full f) in
-      quiet (omega arith) (record { last = refl; paying = refl; buyer = L .buyer; full = L .full; since = omega (arith, L .since) })
+      quiet (omega arith) (record { last = refl; paying = refl; buyer = L .buyer; full = L .full; since = omega (arith, L .since, so-far-none (full f)) })
       (paid-rest (first .0) refl refl refl refl (omega (arith, L .full, L .since, first-le (full f))))
 
   sendInvoice-told : f .state ≡ 6 → On (Told c p) (sendInvoice c n f)
@@ -184,7 +183,7 @@ module _ (c : Call) (v : View) (p : Past) (n : ℕ) (f : Record) (K : Known f p)
   unfolding confirm recordOf full
   confirm-told ok e = go (eqb (f .confirmed .0 + f .pending .0) (full f .0)) refl
     where
-      L : Unpaid (f .buyer) (full f .0) (firstPayment (full f) .0 + f .paid .0) p
+      L : Unpaid (f .buyer) (full f .0) (firstPayment (full f) .0 + paidSoFar (full f) (f .confirmed) .0) p
       L = known-at K 6 e
 
       P : PartPaid f
@@ -194,16 +193,17 @@ module _ (c : Call) (v : View) (p : Past) (n : ℕ) (f : Record) (K : Known f p)
       going = record { pending = fen 0; confirmed = fen (f .confirmed .0 + f .pending .0); paid = fen (f .paid .0 + partOf f .0) }
 
       rest : {Q : Past} → Q .registrant ≡ p .registrant → Q .buyer ≡ p .buyer → Q .full ≡ p .full → Q .since ≡ p .since + partOf f .0 → Rest (f .owner) Q
-      rest a b d s = paid-rest (partOf f .0) a b d s (omega (arith, L .full, L .since, P .first, P .next))
+      rest a b d s = paid-rest (partOf f .0) a b d s (omega (arith, L .full, L .since, P .first, P .next, P .invoices .paid))
 
       go : (b : Bool) → eqb (f .confirmed .0 + f .pending .0) (full f .0) ≡ b →
           On (Told c p) (eventOf n f (cond b Idle (FirstPaid (tradeOf f) going)) 11 (partOf f .0))
       go true q =
-          let paid = last-part (full f) (f .confirmed) (f .paid) (f .pending) (eqb-true _ _ q) (paid-le-rest (full f) (invoicesOf f) (P .invoices)) in
-          let none-left : p .full - (p .since + partOf f .0) ≡ 0 = omega (arith, L .full, L .since, paid, P .first) in
+          let paid = P .last (eqb-true _ _ q) in
+          let none-left : p .full - (p .since + partOf f .0) ≡ 0 = omega (arith, L .full, L .since, paid, P .first, P .invoices .paid) in
           quiet (omega arith) (λ x. ap (fenOf x (p .buyer)) none-left ∙ fen-zero x (p .buyer)) (rest refl refl refl refl)
       go false q =
-          quiet (omega arith) (record { last = refl; paying = refl; buyer = L .buyer; full = L .full; since = omega (arith, L .since) })
+          quiet (omega arith)
+          (record { last = refl; paying = refl; buyer = L .buyer; full = L .full; since = omega (arith, L .since, P .brings, P .invoices .paid) })
           (rest refl refl refl refl)
 
   dayCloseLot-told : On (Told c p) (dayCloseLot n f)

@@ -34,6 +34,11 @@ pub tested : {c : Call} {z : Zone} {n : ℕ} → sweeps (c .kind) ≡ false → 
 tested e (swept h) = absurd (true≢false (sym h ∙ e))
 tested e (named q P) = P
 
+-- and this is the lot that the call names
+pub at-named : {c : Call} {z : Zone} {n : ℕ} → sweeps (c .kind) ≡ false → Visit c z n → n ≡ c .receipt
+at-named e (swept h) = absurd (true≢false (sym h ∙ e))
+at-named e (named q P) = q
+
 -- only a kind visits lots
 pub visit-kind : {c : Call} {z : Zone} {n : ℕ} → Visit c z n → within 1 15 (c .kind) ≡ true
 visit-kind {c} (swept h) = among-each (λ k. within 1 15 k ≡ true) (c .kind) sweepKinds (refl, (refl, (refl, tt))) h

@@ -2,14 +2,14 @@
 -- Assumes nothing.
 use mathlib.Core.Bool.{true, _||_}
 use mathlib.Core.Logic.{_≢_}
-use mathlib.Core.Path.{_≡_, ap}
-use Prim.Native.Nat.{_+_, _-_, _≤_}
+use mathlib.Core.Path.{_≡_, ap, _∙_}
+use Prim.Native.Nat.{ℕ, _+_, _-_, _≤_}
 use native.Mathlib.Omega.{arith}
 use borrow.Author.Tests.{eq-eqb}
 use lib.Dec.{eqb}
 use Rattle.units.specs.declared.Fen.{Fen}
-use Rattle.units.specs.Laws.Bounds.{mostFull, first-rest, part-le-rest}
-use Rattle.units.specs.Payments.{firstPayment, partPayment, perReceipt}
+use Rattle.units.specs.Laws.Bounds.{mostFull, first-rest, so-far-le-rest, so-far-full, part-brings}
+use Rattle.units.specs.Payments.{fen, firstPayment, paidSoFar, partPayment, perReceipt}
 use Rattle.units.specs.Ranges.{within, accountCount}
 use Rattle.zone.specs.declared.Record.{Record}
 use Rattle.zone.specs.Held.{full, rest, held, heldFrom}
@@ -100,7 +100,7 @@ module _ (f : Record) where
   unfolding held
   held-full s = rw s
 
-  pub held-rest : f .state ≡ 6 → held f .0 ≡ rest f .0 - f .paid .0
+  pub held-rest : f .state ≡ 6 → held f .0 ≡ rest f .0 - paidSoFar (full f) (f .confirmed) .0
   unfolding held
   held-rest s = rw s
 
@@ -120,16 +120,22 @@ pub record PartPaid (f : Record) : Type 0 where
   pub invoices : InvoicesIn (full f) (invoicesOf f)
   pub first : firstPayment (full f) .0 + rest f .0 ≡ full f .0
   pub holds : held f .0 ≡ rest f .0 - f .paid .0
+  pub brings : f .paid .0 + partOf f .0 ≡ paidSoFar (full f) (fen (f .confirmed .0 + f .pending .0)) .0
   pub next : f .paid .0 + partOf f .0 ≤ rest f .0
+  pub last : f .confirmed .0 + f .pending .0 ≡ full f .0 → f .paid .0 + partOf f .0 ≡ rest f .0
 
 pub part-paid : (f : Record) → recordValid f ≡ true → f .state ≡ 6 → PartPaid f
 part-paid f ok s =
     let R : InRange 100 mostFull (full f .0) = full-in f ok (omega arith) (omega arith) in
     let I : InvoicesIn (full f) (invoicesOf f) = invoices-in f ok s in
+    let sum : Fen = fen (f .confirmed .0 + f .pending .0) in
+    let B : f .paid .0 + partOf f .0 ≡ paidSoFar (full f) sum .0 = part-brings (full f) (f .confirmed) (f .paid) (f .pending) (omega arith) (I .paid) in
     record {
       full-in = R;
       invoices = I;
       first = first-rest (full f);
-      holds = held-rest f s;
-      next = part-le-rest (full f) (f .confirmed) (f .paid) (f .pending) (omega arith) (I .pending) (I .paid);
+      holds = omega (arith, held-rest f s, I .paid);
+      brings = B;
+      next = omega (arith, B, so-far-le-rest (full f) sum (I .pending));
+      last = λ e. B ∙ ap (λ (n : ℕ). paidSoFar (full f) (fen n) .0) e ∙ so-far-full (full f) (omega arith);
     }

@@ -7,7 +7,7 @@ use Prim.Native.Nat.{ℕ, _+_, _≤_, _<_}
 use native.Mathlib.Omega.{arith}
 use borrow.Author.Tests.{ltb-false, leb-true, eqb-false}
 use lib.Dec.{eqb, leb}
-use Rattle.units.specs.Laws.Bounds.{mostFull, first-rest, part-keeps-bound, penalty-at-most}
+use Rattle.units.specs.Laws.Bounds.{mostFull, first-rest, so-far-none, penalty-at-most}
 use Rattle.units.specs.Payments.{fen, penaltyPassed, deposit, perReceipt}
 use Rattle.units.specs.Ranges.{lastDay}
 use Rattle.zone.specs.declared.Invoices.{Invoices}
@@ -163,10 +163,11 @@ module _ (z : Zone) (day : InRange 1 lastDay (z .day)) (c : Call) (n : ℕ) (f :
       let p : Parties f = parties f ok (omega arith) in
       let R : InRange 100 mostFull (full f .0) = full-in f ok (omega arith) (omega arith) in
       let F = first-rest (full f) in
+      let none = so-far-none (full f) in
       event (record {
         entry = omega arith;
-        pays = paying (p .seller .low) refl refl (omega (arith, held-full f s));
-        known = first-paid (omega arith) (omega arith) (record { confirmed = omega arith; pending = omega arith; paid = omega arith });
+        pays = paying (p .seller .low) refl refl (omega (arith, held-full f s, none));
+        known = first-paid (omega arith) (omega arith) (record { confirmed = omega arith; pending = omega arith; paid = omega (arith, none) });
       })
 
   pub invoice-fit : Tested z c f 13 → FitsAt z n f (sendInvoice (withKind c 13) n f)
@@ -178,7 +179,7 @@ module _ (z : Zone) (day : InRange 1 lastDay (z .day)) (c : Call) (n : ℕ) (f :
       let m : f .confirmed .0 + c .amount ≤ full f .0 = ltb-false _ _ (P .invoice) in
       event (record {
         entry = omega arith;
-        pays = kept refl refl (omega (arith));
+        pays = kept refl refl (omega (arith, K .invoices .paid));
         known = first-paid (omega arith) (omega arith)
             (record { confirmed = K .invoices .confirmed; pending = omega arith; paid = K .invoices .paid });
       })
@@ -201,11 +202,11 @@ module _ (z : Zone) (day : InRange 1 lastDay (z .day)) (c : Call) (n : ℕ) (f :
       let q : f .confirmed .0 + f .pending .0 < full f .0 = omega (arith, eqb-false (f .confirmed .0 + f .pending .0) (full f .0) e) in
       record {
         entry = omega arith;
-        pays = paying (p .seller .low) refl refl (omega (arith));
+        pays = paying (p .seller .low) refl refl (omega (arith, K .brings));
         known = first-paid (omega arith) (omega arith) (record {
           confirmed = q;
           pending = omega arith;
-          paid = part-keeps-bound (full f) (f .confirmed) (f .paid) (f .pending) (omega arith) q (K .invoices .paid);
+          paid = K .brings;
         });
       }
 
