@@ -163,7 +163,10 @@ pub fn paid_so_far(full: Fen, confirmed: Fen) -> Fen
     ensures { λ r. ⌜ r ≡ paidSoFar full confirmed ⌝ }
 {
     let rest = rest_payment(full).0;
-    Fen(rest * confirmed.0 / full.0)
+    let all = full.0;
+    let sum = confirmed.0;
+    let share = rest * sum;
+    Fen(share / all)
 }
 
 // Whether `paid` is that. Products are compared, because they cost less than a division.
@@ -188,8 +191,11 @@ pub fn part_payment(full: Fen, confirmed: Fen, paid: Fen, invoice: Fen) -> Fen
     requires { ⌜ (full .0 < 2 ^ 32) × (0 < invoice .0) × (confirmed .0 + invoice .0 ≤ full .0) × (paid .0 ≡ paidSoFar full confirmed .0) ⌝ }
     ensures { λ r. ⌜ r ≡ partPayment full confirmed paid invoice ⌝ }
 {
-    let all_paid = paid_so_far(full, Fen(confirmed.0 + invoice.0)).0;
-    Fen(all_paid - paid.0)
+    let before = confirmed.0;
+    let new = invoice.0;
+    let so_far = paid.0;
+    let after = paid_so_far(full, Fen(before + new)).0;
+    Fen(after - so_far)
 }
 
 // Frozen from the buyer for each receipt bid on.
