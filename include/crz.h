@@ -208,8 +208,9 @@ enum crz_account_layout {
 };
 
 /*
- * In state CRZ_STATE_FIRST_PAID paid follows from confirmed: it is rest x confirmed / full payment, the fraction dropped,
- * 0 before the first confirmation. An image with another paid is not valid. crz_records.h reckons all of these.
+ * In state CRZ_STATE_FIRST_PAID paid follows from confirmed: it is rest x confirmed / full payment, the fraction
+ * dropped, and so 0 before the first confirmation. An image with another paid is not valid. crz_records.h reckons all of
+ * these.
  */
 enum crz_receipt_layout {
     CRZ_RECEIPT_OWNER = 0,      /* u8: account; 0 where the receipt is not registered */
