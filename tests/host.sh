@@ -252,7 +252,8 @@ cut_zone() {
         "$crz" play "$name" - >"$name.said"
 }
 cut_zone cut.one 66
-cut_zone cut.fen $(printf '1 %.0s' $(seq 66))
+mapfile -t single < <(yes 1 | head -n 66)
+cut_zone cut.fen "${single[@]}"
 cut_zone cut.first 1 65
 cut_zone cut.last 65 1
 cut_zone cut.thirds 33 33
@@ -546,7 +547,7 @@ not_taken early "lot 3 has 1 fen as paid of its rest, where its confirmed invoic
 python3 -c 'b = bytearray(open("below", "rb").read()); b[6:8] = bytes(2); open("dayless", "wb").write(b)'
 not_taken dayless "is no valid image of a zone; no zone was made"
 silent "as paid" dayless # more is wrong than that
-# two lots between their invoices, and one of them paid less
+# two lots between their invoices, one with an invoice pending; one of them paid less, both, or one more
 cat >script <<'END'
 day-close
 pay-in account 5 fen 5,000,000
@@ -559,6 +560,7 @@ morning-close
 first-payment account 4 receipt 128
 invoice account 4 receipt 128 fen 999
 confirm account 5 receipt 128
+invoice account 1 receipt 3 fen 20
 END
 ends 0 "part paid, buyer 5, seller 4, 199 fen" play taken script
 "$crz" export taken two.image >/dev/null
@@ -567,7 +569,8 @@ paid_more two.image one.of.two 128 -1 1
 not_taken one.of.two "lot 128 has 198 fen as paid of its rest, where its confirmed invoices make it 199 fen"
 silent "lot 3 has" one.of.two
 paid_more one.of.two both 3 -2 1
-not_taken both "lot 3 has 11 fen as paid" "lot 128 has 198 fen as paid" "finish each of them with version 2.0.0"
+not_taken both "lot 3 has 11 fen as paid of its rest, where its confirmed invoices make it 13 fen" \
+    "lot 128 has 198 fen as paid" "finish each of them with version 2.0.0"
 paid_more one.of.two mixed 3 1 1
 not_taken mixed "lot 3 has 14 fen as paid" "lot 128 has 198 fen as paid" "is no valid image of a zone"
 
