@@ -262,6 +262,10 @@ for name in one fen first last thirds; do
     holds "cut as $name: the same zone" cmp -s <("$crz" show cut.one) <("$crz" show "cut.$name")
     ends 0 "every number, every answer and the image agree" verify "cut.$name"
 done
+cut_zone cut.guide 33
+ends 0 "its confirmation pays 7 fen of the rest, 34 fen are left to invoice" call cut.guide invoice account 1 receipt 3 fen 33
+"$crz" show cut.guide | tail -n 3 | while read -r line; do grep -F "          $line" "$here/docs/GUIDE.md"; done >guided
+holds "the guide has the lot between its invoices" test "$(wc -l <guided)" -eq 3
 holds "a part of 0 fen is listed" test "$(grep -c 'part paid, buyer 2, seller 1, 0 fen' cut.fen.said)" -eq 53
 holds "and so is one of 1 fen" test "$(grep -c 'part paid, buyer 2, seller 1, 1 fen' cut.fen.said)" -eq 13
 holds "each was told before" cmp -s <(sed -n 's/.*its confirmation pays \(.*\) of the rest.*/\1/p' cut.fen.said) \

@@ -446,12 +446,11 @@ def compare_answers(check, program, zone, script, wanted):
 def compare_parts(check, said):
     """What the program says of an invoice is what its confirmation pays."""
     told = {}
-    for call in (o for o in said if o["type"] == "call" and o["accepted"]):
-        for entry in call["entries"]:
-            if entry["outcome"] == "invoiced":
-                told[entry["lot"]] = call["next_part_fen"]
-            if entry["outcome"] == "part paid":
-                check.same("part paid of lot %d" % entry["lot"], entry["fen"], told.pop(entry["lot"]))
+    for entry, next_part in [(e, o["next_part_fen"]) for o in said if o["type"] == "call" for e in o["entries"]]:
+        if entry["outcome"] == "invoiced":
+            told[entry["lot"]] = next_part
+        if entry["outcome"] == "part paid":
+            check.same("part paid of lot %d" % entry["lot"], entry["fen"], told.pop(entry["lot"]))
 
 
 def lot_object(number, lot):
