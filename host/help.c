@@ -39,7 +39,8 @@ static const struct help helps[] = {
     {"show", "crz show FILE  [--json] [--wait SECONDS]\n"
              "\n"
              "The zone as it stands: day and phase, asks, accounts with money, and every registered receipt by its "
-             "state.\n"},
+             "state;\n"
+             "of a lot that is first paid also what is left to invoice and what the next confirmation pays.\n"},
     {"log", "crz log FILE  [--account N] [--lot N] [--last N] [--head] [--json] [--wait SECONDS]\n"
             "\n"
             "The journal in words, from its start.\n"
@@ -57,7 +58,8 @@ static const struct help helps[] = {
         "crz statement FILE ACCOUNT  [--json] [--wait SECONDS]\n"
         "\n"
         "What was paid in, taken out, received and passed on, what is held for which lot, and how it adds up.\n"
-        "Payments of a lot are shown with the premium of its receipt.\n"},
+        "Payments of a lot are shown with the premium of its receipt, what is held of a rest with the part that the\n"
+        "next confirmation pays.\n"},
     {"due", "crz due FILE  [--json] [--wait SECONDS]\n"
             "\n"
             "The lots that the next morning close works, with their full payment, who must lodge and what each side\n"
@@ -65,7 +67,9 @@ static const struct help helps[] = {
     {"import", "crz import FILE IMAGE\n"
                "\n"
                "Makes a new zone that starts with a raw image, as a host of its own keeps it. An image without\n"
-               "premiums, of a program before 2.0.0, is taken too: every receipt gets premium 0, all else stays.\n"},
+               "premiums, of a program before 2.0.0, is taken too: every receipt gets premium 0, all else stays.\n"
+               "An image of a program before 3.0.0 that has paid less of a rest than this one would is not taken: the\n"
+               "message names the trades, which are to be finished there first.\n"},
     {"export", "crz export FILE IMAGE  [--wait SECONDS]\n"
                "\n"
                "Writes the zone's image into a new file, as the library has it in memory.\n"},

@@ -134,6 +134,15 @@ static void put_reason(const struct line *line, const uint8_t *found)
     json_words("seen", seen[0] == '\0' ? NULL : seen);
 }
 
+/* Of an accepted invoice; null of every other call. */
+static void put_invoiced(const struct line *line, const uint8_t *found)
+{
+    struct crz_receipt_fields lot = {0};
+    int invoiced = invoiced_lot(line, found, &lot);
+    json_if(invoiced, "next_part_fen", crz_next_part(&lot));
+    json_if(invoiced, "left_to_invoice_fen", crz_left_to_invoice(&lot));
+}
+
 static void put_answer(const struct line *line)
 {
     struct crz_answer_fields head = crz_get_answer(line->answer);
@@ -155,6 +164,7 @@ void json_line(const struct line *line, const uint8_t *found)
         json_flag("accepted", line->number == CRZ_NUMBER_ACCEPTED);
         put_reason(line, found);
         put_answer(line);
+        put_invoiced(line, found);
     }
     json_hash("hash", &line->hash);
     json_close();
@@ -192,7 +202,8 @@ static void put_invoices(const struct crz_receipt_fields *r)
     json_if(first_paid, "paid_of_rest_fen", r->paid);
     json_if(first_paid, "confirmed_fen", r->confirmed);
     json_if(first_paid, "pending_fen", r->pending);
-    json_if(first_paid, "left_to_invoice_fen", crz_full_payment(r) - r->confirmed - r->pending);
+    json_if(first_paid, "left_to_invoice_fen", crz_left_to_invoice(r));
+    json_if(first_paid && r->pending != 0, "next_part_fen", crz_next_part(r));
 }
 
 static void put_lot(uint32_t lot, const struct crz_receipt_fields *r)

@@ -69,12 +69,31 @@ static void print_after(const uint8_t *answer)
     print_entries(answer);
 }
 
+int invoiced_lot(const struct line *line, const uint8_t *found, struct crz_receipt_fields *lot)
+{
+    struct crz_call_fields call = crz_get_call(line->call);
+    if (found == NULL || line->number != CRZ_NUMBER_ACCEPTED || call.kind != CRZ_KIND_INVOICE)
+        return 0;
+    *lot = crz_get_receipt(found, call.receipt);
+    lot->pending = (uint32_t)call.amount; /* accepted, so it is within the full payment */
+    return 1;
+}
+
+static void print_invoiced(const struct line *line, const uint8_t *found)
+{
+    struct crz_receipt_fields lot;
+    if (invoiced_lot(line, found, &lot))
+        printf("        its confirmation pays %s fen of the rest, %s fen are left to invoice\n",
+            grouped(crz_next_part(&lot)).text, grouped(crz_left_to_invoice(&lot)).text);
+}
+
 void print_made(const struct line *line, const uint8_t found[CRZ_IMAGE_LENGTH])
 {
     char seen[REASON_LENGTH];
     if (line->number == CRZ_NUMBER_ACCEPTED) {
         printf("accepted, sequence %" PRIu64, line->sequence);
         print_after(line->answer);
+        print_invoiced(line, found);
         return;
     }
     reason_seen(line->number, line->call, found, seen);
@@ -151,16 +170,24 @@ static void print_terms(const struct crz_receipt_fields *r)
     putchar('\n');
 }
 
+static void print_invoices(const struct crz_receipt_fields *r)
+{
+    printf("      of the rest paid %s fen, invoices confirmed %s fen, pending %s fen, left to invoice %s fen\n",
+        grouped(r->paid).text, grouped(r->confirmed).text, grouped(r->pending).text,
+        grouped(crz_left_to_invoice(r)).text);
+    if (r->pending != 0)
+        printf("      the next confirmation pays %s fen\n", grouped(crz_next_part(r)).text);
+    else
+        puts("      no invoice is pending, there is nothing to confirm");
+}
+
 static void print_money(const struct crz_receipt_fields *r)
 {
-    uint64_t full = crz_full_payment(r);
     if (r->price != 0)
-        printf("      full payment %s fen, rest %s fen, held from the buyer %s fen\n", grouped(full).text,
-            grouped(crz_rest_payment(r)).text, grouped(crz_held_money(r)).text);
+        printf("      full payment %s fen, rest %s fen, held from the buyer %s fen\n",
+            grouped(crz_full_payment(r)).text, grouped(crz_rest_payment(r)).text, grouped(crz_held_money(r)).text);
     if (r->state == CRZ_STATE_FIRST_PAID)
-        printf("      of the rest paid %s fen, invoices confirmed %s fen, pending %s fen, left to invoice %s fen\n",
-            grouped(r->paid).text, grouped(r->confirmed).text, grouped(r->pending).text,
-            grouped(full - r->confirmed - r->pending).text);
+        print_invoices(r);
     if (r->state == CRZ_STATE_PENALTY_DUE)
         printf("      the seller owes the buyer up to %s fen\n", grouped(CRZ_PENALTY).text);
 }

@@ -20,6 +20,9 @@ const struct outcome_words *outcome_of(uint32_t outcome);
 
 const char *phase_words(uint32_t phase);
 
+/* The lot of an accepted invoice with that invoice pending; 0 for every other call, or where `found` is NULL. */
+int invoiced_lot(const struct line *line, const uint8_t *found, struct crz_receipt_fields *lot);
+
 /* A call that was made: its number and sequence, and its entries; `found` is the image that it found. */
 void print_made(const struct line *line, const uint8_t found[CRZ_IMAGE_LENGTH]);
 

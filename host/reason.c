@@ -106,9 +106,12 @@ static void wrong_state(struct seen *seen)
     else if (seen->lot.owner == 0)
         say(seen, "receipt %u is not registered", receipt);
     else if (seen->kind->states & 1u << seen->lot.state && seen->lot.pending != 0)
-        say(seen, "an invoice of %s fen waits for its confirmation", grouped(seen->lot.pending).text);
+        say(seen, "an invoice of %s fen waits for its confirmation, which pays %s fen; %s fen are left to invoice",
+            grouped(seen->lot.pending).text, grouped(crz_next_part(&seen->lot)).text,
+            grouped(crz_left_to_invoice(&seen->lot)).text);
     else if (seen->kind->states & 1u << seen->lot.state)
-        say(seen, "no invoice waits for a confirmation");
+        say(seen, "no invoice waits for a confirmation; %s fen are left to invoice",
+            grouped(crz_left_to_invoice(&seen->lot)).text);
     else {
         say(seen, "lot %u is in state '%s', %s needs ", receipt, state_words[seen->lot.state], seen->kind->word);
         states_asked(seen);
@@ -146,8 +149,8 @@ static void nothing_to_pay(struct seen *seen)
 
 static void over_invoice(struct seen *seen)
 {
-    uint64_t left = crz_full_payment(&seen->lot) - seen->lot.confirmed;
-    say(seen, "the invoice is %s fen, %s fen are left to invoice", grouped(seen->call.amount).text, grouped(left).text);
+    say(seen, "the invoice is %s fen, %s fen are left to invoice", grouped(seen->call.amount).text,
+        grouped(crz_left_to_invoice(&seen->lot)).text);
 }
 
 static void over_limit(struct seen *seen)

@@ -42,7 +42,7 @@ static void print_movement(const struct movement *m)
 {
     char what[128], fen[40];
     movement_words(what, sizeof what, m);
-    snprintf(fen, sizeof fen, "%c%s", m->in ? '+' : '-', grouped(m->fen).text);
+    snprintf(fen, sizeof fen, "%s%s", m->fen == 0 ? "" : m->in ? "+" : "-", grouped(m->fen).text);
     printf("  %-8" PRIu64 " %s  %-52s %22s\n", m->line->sequence, m->line->time, what, fen);
 }
 
@@ -125,18 +125,25 @@ static int add_line(void *context, const struct line *line)
     return 0;
 }
 
-static void show_held(const struct statement *s, uint32_t lot, const struct crz_receipt_fields *r)
+static void print_held(uint32_t lot, const struct crz_receipt_fields *r)
 {
-    if (!s->json) {
-        printf("  held for lot %u, %s, premium %s: %s fen\n", lot, state_words[r->state],
-            grouped_signed(r->premium).text, grouped(crz_held_money(r)).text);
-        return;
-    }
+    printf("  held for lot %u, %s, premium %s: %s fen", lot, state_words[r->state], grouped_signed(r->premium).text,
+        grouped(crz_held_money(r)).text);
+    if (r->state == CRZ_STATE_FIRST_PAID && r->pending != 0)
+        printf(", of which the next confirmation pays %s fen", grouped(crz_next_part(r)).text);
+    else if (r->state == CRZ_STATE_FIRST_PAID)
+        printf(", no invoice is pending");
+    putchar('\n');
+}
+
+static void json_held(uint32_t lot, const struct crz_receipt_fields *r)
+{
     json_open("held");
     json_number("lot", lot);
     json_words("state", state_words[r->state]);
     json_signed("premium_yuan", r->premium);
     json_number("fen", crz_held_money(r));
+    json_if(r->state == CRZ_STATE_FIRST_PAID && r->pending != 0, "next_part_fen", crz_next_part(r));
     json_close();
 }
 
@@ -145,7 +152,7 @@ static void show_all_held(const struct statement *s, const uint8_t *image)
     for (uint32_t n = 1; n <= CRZ_RECEIPT_COUNT; n++) {
         struct crz_receipt_fields r = crz_get_receipt(image, n);
         if (r.buyer == s->account && crz_held_money(&r) != 0)
-            show_held(s, n, &r);
+            (s->json ? json_held : print_held)(n, &r);
     }
 }
 

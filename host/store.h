@@ -9,7 +9,7 @@
 
 #include "journal.h"
 
-enum { STORE_FORMAT = 3 };
+enum { STORE_FORMAT = 4 };
 
 enum store_use { STORE_READ, STORE_WRITE, STORE_VERIFY };
 

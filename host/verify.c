@@ -5,6 +5,7 @@
 
 #include "digits.h"
 #include "history.h"
+#include "image.h"
 #include "progress.h"
 #include "zone.h"
 

@@ -4,14 +4,7 @@
 #include <stdio.h>
 
 #include "file.h"
-
-/* A call of no bytes is refused as a call only where the image is valid. */
-int image_valid(const uint8_t image[CRZ_IMAGE_LENGTH])
-{
-    uint8_t copy[CRZ_IMAGE_LENGTH], answer[CRZ_ANSWER_LENGTH];
-    memcpy(copy, image, sizeof copy);
-    return crz_call(copy, sizeof copy, NULL, 0, answer, sizeof answer) == CRZ_NUMBER_BAD_CALL;
-}
+#include "image.h"
 
 /* ── New zones ─────────────────────────────────────────────────────────────────────────────────── */
 
@@ -41,7 +34,7 @@ enum status zone_import(const char *path, const char *image_path, int *older)
     if (file_read_image(image_path, image, older) != 0)
         return STATUS_NOTHING_DONE;
     if (!image_valid(image)) {
-        report(image_path, "is no valid image of a zone; no zone was made");
+        image_report(image_path, image, *older);
         return STATUS_NOTHING_DONE;
     }
     line_start(&start, image);

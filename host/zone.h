@@ -28,7 +28,4 @@ int zone_read(struct store *store, struct newest *newest);
 enum status zone_call(
     struct store *store, const uint8_t call[CRZ_CALL_LENGTH], const struct expect *expect, struct made *made);
 
-/* The library's own verdict on an image. */
-int image_valid(const uint8_t image[CRZ_IMAGE_LENGTH]);
-
 #endif

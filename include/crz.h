@@ -35,10 +35,10 @@ extern "C" {
 
 /* ── Version of this interface ─────────────────────────────────────────────────────────────────── */
 
-#define CRZ_VERSION_MAJOR 2
+#define CRZ_VERSION_MAJOR 3
 #define CRZ_VERSION_MINOR 0
 #define CRZ_VERSION_PATCH 0
-#define CRZ_VERSION "2.0.0"
+#define CRZ_VERSION "3.0.0"
 
 /* ── Lengths and counts ────────────────────────────────────────────────────────────────────────── */
 
@@ -172,7 +172,7 @@ enum crz_outcome { /* what the entry's number is; 0 where nothing stands */
     CRZ_OUTCOME_SETTLED = 8,         /* the full payment, fen */
     CRZ_OUTCOME_FIRST_PAID = 9,      /* fen paid */
     CRZ_OUTCOME_INVOICED = 10,       /* the invoice, fen */
-    CRZ_OUTCOME_PART_PAID = 11,      /* fen paid */
+    CRZ_OUTCOME_PART_PAID = 11,      /* fen paid, which may be 0 */
     CRZ_OUTCOME_BUYER_DEFAULT = 12,  /* the deposit that passes, fen */
     CRZ_OUTCOME_SELLER_DEFAULT = 13,
     CRZ_OUTCOME_BOTH_DEFAULTED = 14,
@@ -207,6 +207,11 @@ enum crz_account_layout {
     CRZ_ACCOUNT_FROZEN = 8 /* u64, fen */
 };
 
+/*
+ * In state CRZ_STATE_FIRST_PAID paid follows from confirmed: it is rest x confirmed / full payment, the fraction
+ * dropped, and so 0 before the first confirmation. An image with another paid is not valid. crz_records.h reckons all of
+ * these.
+ */
 enum crz_receipt_layout {
     CRZ_RECEIPT_OWNER = 0,      /* u8: account; 0 where the receipt is not registered */
     CRZ_RECEIPT_STATE = 1,      /* u8 */
@@ -220,7 +225,7 @@ enum crz_receipt_layout {
     CRZ_RECEIPT_PRICE = 16,     /* u32, yuan per tonne */
     CRZ_RECEIPT_PENDING = 20,   /* u32: the invoice that waits for its confirmation, fen */
     CRZ_RECEIPT_CONFIRMED = 24, /* u32: sum of confirmed invoices, fen */
-    CRZ_RECEIPT_PAID = 28,      /* u32: what confirmed invoices have paid of the rest, fen */
+    CRZ_RECEIPT_PAID = 28,      /* u32: what they have paid of the rest, rest x confirmed / full, fen */
     CRZ_RECEIPT_PREMIUM = 32    /* i32, yuan per tonne: given when the receipt is registered, and kept */
 };
 

@@ -361,6 +361,39 @@ static inline uint64_t crz_rest_payment(const struct crz_receipt_fields *receipt
     return crz_full_payment(receipt) - crz_first_payment(receipt);
 }
 
+/*
+ * The rest is paid by what has been confirmed, however it was cut into invoices. What is reckoned below is exact for a
+ * receipt of a valid image in state CRZ_STATE_FIRST_PAID: its full payment is below 2^31, so that no product passes 64
+ * bits. No difference goes below 0, whatever the receipt holds.
+ */
+
+/*
+ * What is paid of the rest once invoices of `confirmed` fen in all are confirmed: rest x confirmed / full, the fraction
+ * dropped, and all of the rest from the full payment on. In a valid image paid is this sum at the receipt's confirmed.
+ */
+static inline uint64_t crz_paid_of_rest(const struct crz_receipt_fields *receipt, uint64_t confirmed)
+{
+    uint64_t full = crz_full_payment(receipt), rest = crz_rest_payment(receipt);
+    return confirmed < full ? rest * confirmed / full : rest;
+}
+
+/* What may still be invoiced: the full payment less what is confirmed and what is pending. */
+static inline uint64_t crz_left_to_invoice(const struct crz_receipt_fields *receipt)
+{
+    uint64_t full = crz_full_payment(receipt), invoiced = (uint64_t)receipt->confirmed + receipt->pending;
+    return invoiced < full ? full - invoiced : 0;
+}
+
+/*
+ * What the next confirmation pays: the part of the rest that the pending invoice brings, 0 fen perhaps. Without a
+ * pending invoice there is nothing to confirm, and it is 0 too: `pending` tells the two apart.
+ */
+static inline uint64_t crz_next_part(const struct crz_receipt_fields *receipt)
+{
+    uint64_t paid = crz_paid_of_rest(receipt, (uint64_t)receipt->confirmed + receipt->pending);
+    return receipt->pending != 0 && paid > receipt->paid ? paid - receipt->paid : 0;
+}
+
 /* What the lot holds from its buyer's money. */
 static inline uint64_t crz_held_money(const struct crz_receipt_fields *receipt)
 {

@@ -8,16 +8,16 @@
 ends 2 "crz new FILE"
 ends 0 "crz new FILE" --help
 ends 0 "crz new FILE" help
-ends 0 "crz 2.0.0, zone format 3, SQLite 3" --version
+ends 0 "crz 3.0.0, zone format 4, SQLite 3" --version
 for command in new call play show log verify statement due import export; do
     ends 0 "crz $command FILE" help "$command"
     ends 0 "crz $command FILE" "$command" --help
-    ends 0 "crz 2.0.0, zone format 3" "$command" --version
+    ends 0 "crz 3.0.0, zone format 4" "$command" --version
     ends 2 "$command takes FILE" "$command"
 done
 ends 0 "crz new FILE" help --help
 ends 0 "crz new FILE" help help
-ends 0 "crz 2.0.0" help --version
+ends 0 "crz 3.0.0" help --version
 ends 0 "kilograms   1,000 to 60,000" help call
 ends 0 "register account N receipt N kilograms N [premium N]" help register
 ends 0 "premium     -5,000 to 5,000; 0 where it is left out" help register
@@ -131,10 +131,11 @@ ends 0 "lodged" call zone lodge account 3 receipt 1
 ends 0 "settled" call zone morning-close
 ends 1 "it is the afternoon of day 1, its morning close is made" call zone morning-close
 ends 0 "first paid, buyer 4, seller 3, 3,299 fen" call zone first-payment account 3 receipt 1
-ends 1 "no invoice waits for a confirmation" call zone confirm account 4 receipt 1
+ends 1 "no invoice waits for a confirmation; 4,124 fen are left to invoice" call zone confirm account 4 receipt 1
 ends 1 "the invoice is 4,125 fen, 4,124 fen are left to invoice" call zone invoice account 3 receipt 1 fen 4125
 ends 0 "invoiced" call zone invoice account 3 receipt 1 fen 100
-ends 1 "an invoice of 100 fen waits for its confirmation" call zone invoice account 3 receipt 1 fen 100
+ends 1 "an invoice of 100 fen waits for its confirmation, which pays 20 fen; 4,024 fen are left to invoice" \
+    call zone invoice account 3 receipt 1 fen 100
 ends 0 "left to invoice 4,024 fen" show zone
 ends 0 "full payment 4,124 fen, rest 825 fen, held from the buyer 825 fen" show zone
 for _ in $(seq 1000); do echo "pay-in account 9 fen 1,000,000,000,000"; done >rich
@@ -200,6 +201,76 @@ ends 0 "full payment 600 fen" show premium
 ends 0 "pay-ins 5,001,000 + received 0 - take-outs 0 - passed on 500 fen" statement premium 4
 ends 0 "+400" statement premium 1
 ends 0 "history: the books" verify premium
+
+# ── Invoices, cut as the seller likes ───────────────────────────────────────────────────────────────
+# A full payment of 100 fen: 80 at first, and a rest of 20.
+"$crz" new parts >/dev/null
+cat >script <<'END'
+pay-in account 2 fen 5,000,000
+register account 1 receipt 3 kilograms 1,000
+list account 1 receipt 3 contract 1 days 0 basis-yuan -4
+quote contract 1 yuan 5
+market-bid account 2 receipt 3
+lodge account 1 receipt 3
+morning-close
+first-payment account 1 receipt 3
+END
+ends 0 "lot 3: first paid, buyer 2, seller 1, 80 fen" play parts script
+"$crz" export parts uncut.image >/dev/null
+ends 0 "of the rest paid 0 fen, invoices confirmed 0 fen, pending 0 fen, left to invoice 100 fen" show parts
+ends 0 "      no invoice is pending, there is nothing to confirm" show parts
+ends 0 "held for lot 3, first paid, premium 0: 20 fen, no invoice is pending" statement parts 2
+# part INVOICE FEN LEFT: what is said of an invoice before its confirmation, and what that then pays
+part() {
+    ends 0 "        its confirmation pays $2 fen of the rest, $3 fen are left to invoice" \
+        call parts invoice account 1 receipt 3 fen "$1"
+    ends 0 "      the next confirmation pays $2 fen" show parts
+    ends 0 "pending $1 fen, left to invoice $3 fen" show parts
+    ends 0 " fen, of which the next confirmation pays $2 fen" statement parts 2
+    ends 1 "an invoice of $1 fen waits for its confirmation, which pays $2 fen; $3 fen are left to invoice" \
+        call parts invoice account 1 receipt 3 fen 1
+    ends 0 "lot 3: part paid, buyer 2, seller 1, $2 fen" call parts confirm account 2 receipt 3
+}
+part 33 6 67
+ends 0 "of the rest paid 6 fen, invoices confirmed 33 fen, pending 0 fen, left to invoice 67 fen" show parts
+ends 1 "the invoice is 68 fen, 67 fen are left to invoice" call parts invoice account 1 receipt 3 fen 68
+ends 1 "no invoice waits for a confirmation; 67 fen are left to invoice" call parts confirm account 2 receipt 3
+part 33 7 34
+ends 0 "of the rest paid 13 fen, invoices confirmed 66 fen, pending 0 fen, left to invoice 34 fen" show parts
+"$crz" export parts parts.image >/dev/null
+part 34 7 0
+ends 0 "lot 3: idle, owner 2" show parts
+ends 0 "pay-ins 5,000,000 + received 0 - take-outs 0 - passed on 100 fen" statement parts 2
+holds "the log knows no image of then" test -z "$("$crz" log parts | grep 'its confirmation')"
+ends 0 "history: the books" verify parts
+# cut_zone NAME INVOICE..: from the first payment on, confirmed to 66 fen in these invoices
+cut_zone() {
+    local name=$1
+    shift
+    "$crz" import "$name" uncut.image >/dev/null
+    for fen; do printf 'invoice account 1 receipt 3 fen %d\nconfirm account 2 receipt 3\n' "$fen"; done |
+        "$crz" play "$name" - >"$name.said"
+}
+cut_zone cut.one 66
+mapfile -t single < <(yes 1 | head -n 66)
+cut_zone cut.fen "${single[@]}"
+cut_zone cut.first 1 65
+cut_zone cut.last 65 1
+cut_zone cut.thirds 33 33
+for name in one fen first last thirds; do
+    ends 0 "of the rest paid 13 fen, invoices confirmed 66 fen" show "cut.$name"
+    holds "cut as $name: the same zone" cmp -s <("$crz" show cut.one) <("$crz" show "cut.$name")
+    ends 0 "every number, every answer and the image agree" verify "cut.$name"
+done
+cut_zone cut.guide 33
+ends 0 "its confirmation pays 7 fen of the rest, 34 fen are left to invoice" call cut.guide invoice account 1 receipt 3 fen 33
+"$crz" show cut.guide | tail -n 3 | while read -r line; do grep -F "          $line" "$here/docs/GUIDE.md"; done >guided
+holds "the guide has the lot between its invoices" test "$(wc -l <guided)" -eq 3
+holds "a part of 0 fen is listed" test "$(grep -c 'part paid, buyer 2, seller 1, 0 fen' cut.fen.said)" -eq 53
+holds "and so is one of 1 fen" test "$(grep -c 'part paid, buyer 2, seller 1, 1 fen' cut.fen.said)" -eq 13
+holds "each was told before" cmp -s <(sed -n 's/.*its confirmation pays \(.*\) of the rest.*/\1/p' cut.fen.said) \
+    <(sed -n 's/.*part paid, buyer 2, seller 1, //p' cut.fen.said)
+holds "a statement has parts of 0 fen" test "$("$crz" statement cut.fen 1 | grep -c 'part paid, .* 0$')" -eq 53
 
 # ── Scripts ─────────────────────────────────────────────────────────────────────────────────────────
 "$crz" new script.zone >/dev/null
@@ -339,6 +410,18 @@ objects 'assert kinds["lot"][0]["owner"] == 11 and kinds["lot"][0]["full_fen"] i
 objects 'assert [lot["premium_yuan"] for lot in kinds["lot"]] == [100, -80, 0, 0]' show day
 objects 'assert [m["premium_yuan"] for m in kinds["movement"]] == [None, -5, -5, -5]' statement premium 4
 objects 'assert len(kinds["contract"]) == 8 and len(kinds["lot"]) == 4' show day
+objects 'assert all(lot["next_part_fen"] is None and lot["left_to_invoice_fen"] is None for lot in kinds["lot"])' show day
+objects 'lot = kinds["lot"][0]; assert lot["left_to_invoice_fen"] == 34 and lot["next_part_fen"] is None' show cut.one
+objects 'assert kinds["held"][0]["fen"] == 7 and kinds["held"][0]["next_part_fen"] is None' statement cut.one 2
+objects 'c = kinds["call"][0]; assert c["next_part_fen"] == 0 and c["left_to_invoice_fen"] == 33 and c["accepted"]' \
+    call cut.one invoice account 1 receipt 3 fen 1
+objects 'lot = kinds["lot"][0]; assert lot["left_to_invoice_fen"] == 33 and lot["next_part_fen"] == 0' show cut.one
+objects 'assert kinds["held"][0]["fen"] == 7 and kinds["held"][0]["next_part_fen"] == 0' statement cut.one 2
+objects 'c = kinds["call"][0]; assert not c["accepted"] and c["next_part_fen"] is None and c["left_to_invoice_fen"] is None' \
+    call cut.one invoice account 1 receipt 3 fen 1
+objects 'assert kinds["call"][0]["next_part_fen"] is None and kinds["call"][0]["entries"][0]["fen"] == 0' \
+    call cut.one confirm account 2 receipt 3
+objects 'assert all(c["next_part_fen"] is None and c["left_to_invoice_fen"] is None for c in kinds["call"])' log cut.one
 objects 'b = kinds["balance"][0]; assert b["pay_ins_fen"] - b["passed_fen"] == b["free_fen"] == 36907390' statement day 11
 objects 'assert [m["out_fen"] for m in kinds["movement"]] == [None, 50474088, 6000000, 6618522]' statement day 11
 objects 'assert kinds["close"][0]["lots"] == 1 and kinds["due"][0]["penalty_fen"] == 5000000' due noon
@@ -409,6 +492,92 @@ head -c "$((older_length - 1))" older.image >short
 ends 3 "is no raw image" import short.zone short
 holds "a bad older image makes no zone" test ! -e short.zone -a ! -e desk.131.zone -a ! -e desk.91.zone
 
+# An image of version 2.0.0 may have less paid of a rest than confirmed invoices make it: then it names the trades.
+cat >paid.py <<'END'
+"""paid.py IMAGE CHANGED LOT FEN MOVED OFFSETS..: so many fen more as paid of a lot, and moved from buyer to seller or not"""
+import sys
+image = bytearray(open(sys.argv[1], "rb").read())
+lot, fen, moved, receipts, length, paid, seller, buyer, accounts = map(int, sys.argv[3:])
+def add(at, width, fen):
+    image[at:at + width] = (int.from_bytes(image[at:at + width], "little") + fen).to_bytes(width, "little")
+record = receipts + length * (lot - 1)
+add(record + paid, 4, fen)
+if moved:
+    add(accounts + 16 * (image[record + buyer] - 1) + 8, 8, -fen)
+    add(accounts + 16 * (image[record + seller] - 1), 8, fen)
+open(sys.argv[2], "wb").write(image)
+END
+# paid_more IMAGE CHANGED LOT FEN MOVED: as paid.py has it
+paid_more() {
+    python3 paid.py "$@" "$(named CRZ_IMAGE_RECEIPTS)" "$(named CRZ_RECEIPT_LENGTH)" "$(named CRZ_RECEIPT_PAID)" \
+        "$(named CRZ_RECEIPT_SELLER)" "$(named CRZ_RECEIPT_BUYER)" "$(named CRZ_IMAGE_ACCOUNTS)"
+}
+# not_taken IMAGE TEXT..: no zone is made, and each text is said
+not_taken() {
+    local image=$1
+    shift
+    for text; do ends 3 "$text" import not.taken "$image"; done
+    holds "$image makes no zone" test ! -e not.taken
+}
+# silent TEXT IMAGE: an import does not say it
+silent() {
+    holds "$2: said '$1'" test -z "$("$crz" import not.taken "$2" 2>&1 | grep -F -- "$1")"
+}
+ends 0 "taken: a zone with that image, sequence 0" import taken parts.image
+ends 0 "of the rest paid 13 fen, invoices confirmed 66 fen" show taken
+paid_more parts.image below 3 -1 1
+not_taken below \
+    "below: lot 3 has 12 fen as paid of its rest, where its confirmed invoices make it 13 fen (rest 20 x confirmed 66 / full payment 100)" \
+    "below: these trades were paid in part by the rule of versions before 3.0.0; no zone was made" \
+    "finish each of them with version 2.0.0, invoices confirmed up to the full payment, then export and import again"
+silent "is no valid image" below
+before below below.older
+not_taken below.older "lot 3 has 12 fen as paid of its rest, where its confirmed invoices make it 13 fen" \
+    "finish each of them with the version that made the image"
+before parts.image parts.older
+ends 0 "taken.older: a zone with that older image, every premium 0, sequence 0" import taken.older parts.older
+holds "and it is the same zone" cmp -s <("$crz" show taken) <("$crz" show taken.older)
+paid_more parts.image above 3 1 1
+not_taken above "lot 3 has 14 fen as paid of its rest, where its confirmed invoices make it 13 fen" \
+    "above: is no valid image of a zone; no zone was made"
+silent "2.0.0" above # no version pays more
+for fen in 1 -1; do # a byte that changed, with the money as it was
+    paid_more parts.image changed 3 "$fen" 0
+    not_taken changed "lot 3 has $((13 + fen)) fen as paid of its rest" "is no valid image of a zone; no zone was made"
+    silent "2.0.0" changed
+done
+paid_more uncut.image early 3 1 1
+not_taken early "lot 3 has 1 fen as paid of its rest, where its confirmed invoices make it 0 fen (rest 20 x confirmed 0 /"
+python3 -c 'b = bytearray(open("below", "rb").read()); b[6:8] = bytes(2); open("dayless", "wb").write(b)'
+not_taken dayless "is no valid image of a zone; no zone was made"
+silent "as paid" dayless # more is wrong than that
+# two lots between their invoices, one with an invoice pending; one of them paid less, both, or one more
+cat >script <<'END'
+day-close
+pay-in account 5 fen 5,000,000
+register account 4 receipt 128 kilograms 1,000 premium 10
+list account 4 receipt 128 contract 1 days 0 basis-yuan -4
+quote contract 1 yuan 5
+market-bid account 5 receipt 128
+lodge account 4 receipt 128
+morning-close
+first-payment account 4 receipt 128
+invoice account 4 receipt 128 fen 999
+confirm account 5 receipt 128
+invoice account 1 receipt 3 fen 20
+END
+ends 0 "part paid, buyer 5, seller 4, 199 fen" play taken script
+"$crz" export taken two.image >/dev/null
+ends 0 "a zone with that image" import two two.image
+paid_more two.image one.of.two 128 -1 1
+not_taken one.of.two "lot 128 has 198 fen as paid of its rest, where its confirmed invoices make it 199 fen"
+silent "lot 3 has" one.of.two
+paid_more one.of.two both 3 -2 1
+not_taken both "lot 3 has 11 fen as paid of its rest, where its confirmed invoices make it 13 fen" \
+    "lot 128 has 198 fen as paid" "finish each of them with version 2.0.0"
+paid_more one.of.two mixed 3 1 1
+not_taken mixed "lot 3 has 14 fen as paid" "lot 128 has 198 fen as paid" "is no valid image of a zone"
+
 # The last day of a zone, by an image of that day.
 python3 -c 'b = bytearray(open("day.image", "rb").read()); b[6:8] = (30000).to_bytes(2, "little"); open("last.image", "wb").write(b)'
 ends 0 "a zone with that image" import last last.image
@@ -424,10 +593,42 @@ holds "the README's samples" test $? -eq 0
 "$crz" new guide/target/day.crz >/dev/null && "$crz" play guide/target/day.crz "$here/host/day.txt" >/dev/null
 (cd guide && python3 "$here/tests/host_samples.py" "$crz" "$here/docs/GUIDE.md")
 holds "the guide's samples" test $? -eq 0
+# the guide's lines for a host of one's own, on the image of an invoice that waits
+cat >ours.c <<'END'
+#include "crz_records.h"
+#include <inttypes.h>
+#include <stdio.h>
+int main(void)
+{
+    static uint8_t image[CRZ_IMAGE_LENGTH];
+    if (fread(image, 1, sizeof image, stdin) != sizeof image)
+        return 1;
+END
+# shellcheck disable=SC2016 # the quotes are the document's
+sed -n '/^```c$/,/^```$/{/^```/d;p}' "$here/docs/GUIDE.md" >>ours.c
+printf '    return 0;\n}\n' >>ours.c
+holds "the guide's lines in C" gcc -std=c99 -Wall -Wextra -Wconversion -Werror -I"$here/include" -o ours ours.c
+"$crz" call cut.thirds invoice account 1 receipt 3 fen 4 >/dev/null && "$crz" export cut.thirds thirds.image >/dev/null
+holds "what they print: $(./ours <thirds.image)" test "$(./ours <thirds.image)" = "lot 3: left to invoice 30 fen
+the next confirmation pays 1 fen"
+holds "and without an invoice" test "$(./ours <parts.image)" = "lot 3: left to invoice 34 fen
+no invoice is pending"
+version=$(sed -n 's/^#define CRZ_VERSION "\(.*\)"/\1/p' "$here/include/crz.h")
+holds "the man page is of version $version" grep -q "^.TH CRZ 1 .* \"crz $version\"" "$here/host/crz.1"
 for command in new call play show log verify statement due import export; do
     holds "the man page has $command" grep -q "fBcrz $command" "$here/host/crz.1"
 done
 if command -v groff >/dev/null 2>&1; then
     holds "the man page is well formed" test -z "$(groff -man -ww -Tutf8 "$here/host/crz.1" 2>&1 >/dev/null)"
+fi
+
+# ── The shared object ───────────────────────────────────────────────────────────────────────────────
+# Its name for the linker has the version's first number: programs of another one do not take it.
+if [ -e "$here/target/staticlib/libcrz.a" ]; then
+    holds "a shared object is made" "$here/tools/shared" "$PWD/shared"
+    holds "its name" grep -qF "[libcrz.so.${version%%.*}]" <(readelf -d shared/libcrz.so)
+    holds "its files" test "$(echo shared/*)" = "shared/libcrz.so shared/libcrz.so.${version%%.*}"
+else
+    echo "no archive in target/staticlib: the shared object is not tried"
 fi
 finish

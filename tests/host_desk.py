@@ -31,6 +31,8 @@ PARTY = {"list": "owner", "withdraw-listing": "seller", "withdraw-bid": "buyer",
 BIDS = ["limit-bid", "market-bid"]
 # What a run must come to with a premium above 0 and with one below 0.
 REACH = ["settled", "sold again by its buyer", "paid in full", "penalty", "number 10 turned by it"]
+# Parts of the rest that a run must pay.
+PARTS = {"0 fen", "more than its invoice would pay alone", "the last of several", "all in one"}
 
 
 def word_of(name):
@@ -61,6 +63,16 @@ class Lot:
     def rest(self):
         return self.full() - self.full() * 80 // 100
 
+    def left(self):
+        return self.full() - self.confirmed - self.pending
+
+    def paid_at(self, confirmed):
+        """What is paid of the rest so far, for this sum confirmed so far."""
+        return self.rest() * confirmed // self.full()
+
+    def next_part(self):
+        return self.paid_at(self.confirmed + self.pending) - self.paid if self.pending else None
+
     def held(self):
         if self.state in (BID_STANDS, STRUCK, LODGED):
             return DEPOSIT
@@ -77,6 +89,7 @@ class Books:
         self.day, self.afternoon = 1, False
         self.movements = {}  # of an account: (what, lot, other account, in, out, premium where a full payment counts it)
         self.reached = set()  # (what, whether the premium is above 0)
+        self.parts = set()  # kinds of parts of a rest that were paid
 
     def frozen(self, account):
         return sum(lot.held() for lot in self.lots.values() if lot.buyer == account)
@@ -116,8 +129,11 @@ class Books:
             return "lot %d is in state '%s', %s needs %s" % (
                 f["receipt"], STATES[lot.state], kind, " or ".join("'%s'" % STATES[s] for s in NEEDS[kind]))
         if kind == "invoice" and lot.pending:
-            return "an invoice of %s fen waits for its confirmation" % grouped(lot.pending)
-        return "no invoice waits for a confirmation" if kind == "confirm" and not lot.pending else None
+            return "an invoice of %s fen waits for its confirmation, which pays %s fen; %s fen are left to invoice" % (
+                grouped(lot.pending), grouped(lot.next_part()), grouped(lot.left()))
+        if kind == "confirm" and not lot.pending:
+            return "no invoice waits for a confirmation; %s fen are left to invoice" % grouped(lot.left())
+        return None
 
     def wrong_party(self, kind, f, lot):
         if kind in BIDS and lot.seller == f["account"]:
@@ -306,13 +322,20 @@ class Books:
         lot.pending = f["fen"]
         return [(f["receipt"], "invoiced", lot.seller, lot.buyer, f["fen"])]
 
+    def note_part(self, lot, fen, last):
+        if fen == 0:
+            self.parts.add("0 fen")
+        if fen > lot.paid_at(lot.pending):
+            self.parts.add("more than its invoice would pay alone")
+        if last:
+            self.parts.add("the last of several" if lot.confirmed > 0 else "all in one")
+
     def confirm(self, f):
         lot = self.lots[f["receipt"]]
-        fen = lot.rest() * lot.pending // lot.full()
-        lot.confirmed, lot.pending = lot.confirmed + lot.pending, 0
-        last = lot.confirmed == lot.full()
-        fen = lot.rest() - lot.paid if last else fen
-        lot.paid += fen
+        confirmed = lot.confirmed + lot.pending
+        fen, last = lot.paid_at(confirmed) - lot.paid, confirmed == lot.full()
+        self.note_part(lot, fen, last)
+        lot.confirmed, lot.pending, lot.paid = confirmed, 0, lot.paid + fen
         entry = self.transfer("part paid", f["receipt"], lot.buyer, lot.seller, fen)
         if last:
             self.reach("paid in full", lot)
@@ -329,7 +352,9 @@ class Books:
 
     def call(self, kind, f):
         number, said = self.refusal(kind, f)
-        return number, said, [] if number else getattr(self, kind.replace("-", "_"))(f)
+        entries = [] if number else getattr(self, kind.replace("-", "_"))(f)
+        lot = self.lots[f["receipt"]] if kind == "invoice" and number == 0 else None
+        return number, said, entries, (lot.next_part(), lot.left()) if lot else (None, None)
 
 
 # ── Random calls, most of them sensible ──
@@ -399,7 +424,7 @@ def entry_fields(entry):
 
 
 def make_script(books, seed, calls):
-    """The calls in words, and what is wanted of each: (call, number, words, entries)."""
+    """The calls in words, and what is wanted of each: (call, number, words, entries, next part and left to invoice)."""
     chance, script, wanted = random.Random(seed), "", []
     for _ in range(calls):
         kind, f = some_call(chance, books)
@@ -411,9 +436,21 @@ def make_script(books, seed, calls):
 def compare_answers(check, program, zone, script, wanted):
     said = objects(program, "play", zone, "-", script=script.encode())
     check.same("calls played", len(said) - 1, len(wanted))
-    for got, (call, number, seen, entries) in zip(said, wanted):
+    for got, (call, number, seen, entries, invoiced) in zip(said, wanted):
         check.same("answer to %s" % call, (got["call"], got["number"], got["seen"]), (call, number, seen))
         check.same("entries of %s" % call, list(map(entry_fields, got["entries"])), entries)
+        check.same("what follows %s" % call, (got["next_part_fen"], got["left_to_invoice_fen"]), invoiced)
+    compare_parts(check, said)
+
+
+def compare_parts(check, said):
+    """What the program says of an invoice is what its confirmation pays."""
+    told = {}
+    for entry, next_part in [(e, o["next_part_fen"]) for o in said if o["type"] == "call" for e in o["entries"]]:
+        if entry["outcome"] == "invoiced":
+            told[entry["lot"]] = next_part
+        if entry["outcome"] == "part paid":
+            check.same("part paid of lot %d" % entry["lot"], entry["fen"], told.pop(entry["lot"]))
 
 
 def lot_object(number, lot):
@@ -424,7 +461,8 @@ def lot_object(number, lot):
         "price_yuan": lot.price, "due": lot.due, "full_fen": lot.full() if traded else None,
         "rest_fen": lot.rest() if traded else None, "held_fen": lot.held(), "paid_of_rest_fen": lot.paid,
         "confirmed_fen": lot.confirmed, "pending_fen": lot.pending,
-        "left_to_invoice_fen": lot.full() - lot.confirmed - lot.pending if invoiced else None,
+        "left_to_invoice_fen": lot.left() if invoiced else None,
+        "next_part_fen": lot.next_part() if invoiced else None,
     }
 
 
@@ -472,9 +510,10 @@ def compare_statement(check, program, zone, books, account):
     check.same("movements of account %d" % account, movements, [
         (o["what"], o["lot"], o["other_account"], o["in_fen"], o["out_fen"], o["premium_yuan"]) for o in said
         if o["type"] == "movement"])
-    held = [(n, lot.held(), lot.premium) for n, lot in sorted(books.lots.items()) if lot.buyer == account and lot.held() > 0]
+    held = [(n, lot.held(), lot.premium, lot.next_part()) for n, lot in sorted(books.lots.items())
+            if lot.buyer == account and lot.held() > 0]
     check.same("held for account %d" % account, [
-        (o["lot"], o["fen"], o["premium_yuan"]) for o in said if o["type"] == "held"], held)
+        (o["lot"], o["fen"], o["premium_yuan"], o["next_part_fen"]) for o in said if o["type"] == "held"], held)
     line = said[-1]
     check.same("sums of account %d" % account, sums(movements), [
         line["pay_ins_fen"], line["take_outs_fen"], line["received_fen"], line["passed_fen"]])
@@ -492,6 +531,7 @@ def main():
         compare_statement(check, program, zone, books, account)
     wanted = {(what, above) for what in REACH for above in (False, True)}
     check.same("what premiums of both signs came to", wanted - books.reached, set())
+    check.same("parts of a rest", PARTS - books.parts, set())
     print("seed %s: day %d, %s, %d lots due" % (seed, books.day, "afternoon" if books.afternoon else "morning",
                                                len(books.due_lots(books.day + books.afternoon))))
     print("%d passed, %d failed" % (check.passed, check.failed))

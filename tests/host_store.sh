@@ -72,21 +72,23 @@ for file in empty text zeros other; do
 done
 ends 3 "is a folder, not a zone" call folder day-close
 ends 3 "is no regular file" show pipe
-for format in 1 2; do
+for format in 1 2 3; do # before format 3 the image was shorter
+    length=$([ "$format" -lt 3 ] && echo "$older_length" || echo "$image_length")
     cp a older && change older "pragma user_version = $format" \
-        "update zone set image = cast(substr(image, 1, $older_length) as blob)"
+        "update zone set image = cast(substr(image, 1, $length) as blob)"
     before=$(sha256sum older)
     for command in show log verify due; do
-        ends 3 "older: is a zone of the older format $format; this program knows format 3 and leaves the file as it was" \
+        ends 3 "older: is a zone of the older format $format; this program knows format 4 and leaves the file as it was" \
             "$command" older
     done
     ends 3 "the program that made it writes its image with 'crz export older IMAGE', and 'crz import ZONE IMAGE' here" \
         call older day-close
+    ends 3 "takes that, or says which trades are to be finished first" export older older.image
     ends 3 "the call was not made" call older day-close
     holds "a zone of format $format stays" test "$before" = "$(sha256sum older)"
 done
-cp a newer && change newer "pragma user_version = 4"
-ends 3 "is a zone of the newer format 4; this program knows format 3 and leaves the file as it was" call newer day-close
+cp a newer && change newer "pragma user_version = 5"
+ends 3 "is a zone of the newer format 5; this program knows format 4 and leaves the file as it was" call newer day-close
 cp a tables && change tables "create table more (x)"
 ends 3 "its tables are not those of a zone" call tables day-close
 cp a cut && truncate -s -4096 cut
