@@ -237,6 +237,7 @@ over-at-full image call answer number image′ answer′ R k s =
     by-turn : {parts : ℕ} {i : List ℕ} → Turn (callIn call) k (lotIn image k) parts (lotIn i k) → Proceeds k image (callIn call) 0 i
     by-turn (on six trade same paid) = goesOn six trade same
     by-turn (off kind at by sum idle paid) = isOver refl kind at by sum idle
+
     go : {n : ℕ} {i a : List ℕ} → Left image (callIn call) answer n i a → n ≡ recordNumber image call answer → Proceeds k image (callIn call) n i
     go (refused n) e = goesOn s refl refl
     go accepted e = by-turn (turn-on image (callIn call) (zero-for image call answer e) k s)

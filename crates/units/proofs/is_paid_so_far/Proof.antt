@@ -18,10 +18,13 @@ by-products x y k some = go (leb (x * k) y) (ltb y (x * k + k)) (eqb x (y / k)) 
   where
     least : x ≡ y / k → x * k ≤ y
     least e = subst (λ (n : ℕ). n * k ≤ y) (sym e) (div-mul-le-self y k)
+
     below : x ≡ y / k → y < x * k + k
     below e = subst (λ (n : ℕ). y < n * k + k) (sym e) (lt-div-mul-add some)
+
     is : x * k ≤ y → y < x * k + k → x ≡ y / k
     is p q = sym (div-eq-of-lt-le k p (rw (add-mul x 1 k) (omega arith)))
+
     go : (a b d : Bool) → leb (x * k) y ≡ a → ltb y (x * k + k) ≡ b → eqb x (y / k) ≡ d → a && b ≡ d
     go true true true p q e = refl
     go true true false p q e = absurd (eqb-false x (y / k) e (is (leb-true (x * k) y p) (ltb-true y (x * k + k) q)))
