@@ -11,4 +11,5 @@ pub mod StrikesListed
 pub mod Premiums
 pub mod PremiumTrades
 pub mod Cutting
+pub mod CutTrades
 pub mod Laws
