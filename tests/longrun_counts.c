@@ -293,8 +293,8 @@ static void count_put_in(const struct made *made, uint32_t lot)
         put_in[bad][what]++;
 }
 
-/* what is paid went up by as much as frozen money and total went down: then the sums fit */
-static int is_booked(const struct made *made, uint32_t buyer, uint32_t more)
+/* what is paid went up by so much, modulo 2^64; frozen money and total went down by the same: then the sums fit */
+static int is_booked(const struct made *made, uint32_t buyer, uint64_t more)
 {
     uint64_t frozen = crz_get_account(made->before, buyer).frozen, total = crz_get_total(made->before);
     return frozen + more == crz_get_account(made->sound, buyer).frozen && total + more == crz_get_total(made->sound);
@@ -306,9 +306,9 @@ static void count_put_paid(const struct made *made, uint32_t lot)
     struct crz_receipt_fields now = crz_get_receipt(made->before, lot), then = crz_get_receipt(made->sound, lot);
     int bad = made->number == CRZ_NUMBER_BAD_IMAGE, some = now.confirmed != 0;
     uint64_t full = crz_full_payment(&now), must = full == 0 ? 0 : crz_rest_payment(&now) * now.confirmed / full;
-    uint32_t more = now.paid - then.paid, beside = now.paid - (uint32_t)must;
+    uint32_t beside = now.paid - (uint32_t)must;
     if (now.state != CRZ_STATE_FIRST_PAID || then.state != now.state || full != crz_full_payment(&then)
-        || !is_booked(made, now.buyer, more))
+        || !is_booked(made, now.buyer, (uint64_t)now.paid - then.paid))
         return;
     put_paid[some][bad][MUST_BE] += beside == 0 && !bad;
     put_paid[some][bad][FEN_MORE] += beside == 1;
