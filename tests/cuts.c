@@ -242,15 +242,18 @@ enum { CUTS = sizeof cuts / sizeof cuts[0] };
 static void call_between(unsigned number)
 {
     static const uint32_t numbers[] = {CRZ_NUMBER_ACCEPTED, CRZ_NUMBER_OVER_INVOICE, CRZ_NUMBER_WRONG_STATE,
-        CRZ_NUMBER_ACCEPTED, CRZ_NUMBER_WRONG_PARTY, CRZ_NUMBER_ACCEPTED, CRZ_NUMBER_ACCEPTED};
+        CRZ_NUMBER_ACCEPTED, CRZ_NUMBER_WRONG_PARTY, CRZ_NUMBER_WRONG_STATE, CRZ_NUMBER_ACCEPTED};
     switch (number % 8) {
     case 0: crz_put_pay_in(call, THIRD, 1 + number); break;
     case 1: crz_put_invoice(call, SELLER, LOT, trade.full - trade.confirmed + 1); break;
     case 2: crz_put_confirm(call, BUYER, LOT); break;
     case 3: crz_put_quote(call, CONTRACT, number % 16 == 3 ? 0 : OTHER_PRICE); break;
     case 4: crz_put_invoice(call, BUYER, LOT, 1); break;
-    case 5: crz_put_invoice(call, SELLER, OTHER, 1000 + number); break;
-    case 6: crz_put_confirm(call, BUYER, OTHER); break;
+    case 5: crz_put_limit_bid(call, THIRD, LOT, OTHER_PRICE); break;
+    case 6:
+        invoice(SELLER, OTHER, 1 + number);
+        crz_put_confirm(call, BUYER, OTHER);
+        break;
     default: close_morning(); return;
     }
     make(numbers[number % 8], "a call between");
@@ -309,14 +312,15 @@ static void confirm_pending(uint64_t pending)
     meet_others();
 }
 
-static void cut_once(cut *size, unsigned number, int calls_between)
+/* `between` is 0 for no other calls, else where in their order they begin */
+static void cut_once(cut *size, unsigned number, unsigned between)
 {
     uint64_t left = trade.full - trade.confirmed, wanted = size(left, number), amount = wanted < left ? wanted : left;
-    if (calls_between)
-        call_between(number);
+    if (between)
+        call_between(between + number);
     invoice(SELLER, LOT, amount);
-    if (calls_between)
-        call_before_confirmation(number);
+    if (between)
+        call_before_confirmation(between + number);
     confirm_pending(amount);
 }
 
@@ -345,7 +349,7 @@ static void read_trade(void)
     trade.paid_at_start = lot.paid;
 }
 
-static void cut_all(cut *size, const struct terms *terms, int calls_between)
+static void cut_all(cut *size, const struct terms *terms, unsigned between)
 {
     uint64_t pending = crz_get_receipt(start, LOT).pending;
     unsigned number = 0;
@@ -355,7 +359,7 @@ static void cut_all(cut *size, const struct terms *terms, int calls_between)
     if (pending != 0)
         confirm_pending(pending);
     while (trade.confirmed < trade.full)
-        cut_once(size, number++, calls_between);
+        cut_once(size, number++, between);
     expect(trade.paid == trade.rest - trade.paid_at_start, "the whole rest is paid");
     expect(crz_get_receipt(image, LOT).state == CRZ_STATE_IDLE, "the lot has ended");
     sell_again(terms);
@@ -364,13 +368,13 @@ static void cut_all(cut *size, const struct terms *terms, int calls_between)
 /* every way from one start, each by itself and with other calls between */
 static void try_cuts(const struct terms *terms)
 {
-    int i;
+    unsigned i;
     sum_count = 0;
     meetings = 0;
     read_trade();
     for (i = 0; i < 2 * CUTS; i++)
         if (trade.full <= cuts[i / 2].most_full)
-            cut_all(cuts[i / 2].size, terms, i % 2);
+            cut_all(cuts[i / 2].size, terms, i % 2 == 0 ? 0 : i / 2 + 1);
     expect(meetings > CUTS, "ways of cutting meet at common sums");
 }
 
