@@ -8,7 +8,7 @@
  * bench LEDGER ROW   one round of one row, to count its instructions: LEDGER is library, gcc or clang
  *
  * A row is a call, the image that it finds and what it returns. A new one is a line of `rows`, and a function that
- * fills its image if none of the four here will do. An entry of another form is a field more of `ledgers`, and is
+ * fills its image if none of the five here will do. An entry of another form is a field more of `ledgers`, and is
  * called in one_round.
  */
 #define _POSIX_C_SOURCE 200809L
@@ -24,8 +24,9 @@ typedef uint32_t ledger_call(
     uint8_t *image, size_t image_len, const uint8_t *call, size_t call_len, uint8_t *answer, size_t answer_len);
 ledger_call plain_gcc_call, plain_clang_call;
 
-enum { IMAGES = 16, ROUNDS = 1000, SWEEPS = 10, DAY = 5, PRICE = 15000, WEIGHT = 41237, CONFIRMED = 1000, PAID = 100 };
-enum { LOT = 3, BIDDER = 90, LAST = CRZ_RECEIPT_COUNT };
+enum { IMAGES = 16, ROUNDS = 1000, SWEEPS = 10, DAY = 5, PRICE = 15000, WEIGHT = 41237 };
+enum { CONFIRMED = 20000000, PENDING = 10000000 };
+enum { LOT = 3, BIDDER = 90, TRADE = 7, PAYER = 55, LAST = CRZ_RECEIPT_COUNT };
 
 /* the library comes first */
 static const struct ledger {
@@ -62,10 +63,17 @@ static void put_trade(uint8_t *receipt, unsigned state, unsigned buyer)
     }
     if (state >= CRZ_STATE_STRUCK)
         crz_put_u16(receipt + CRZ_RECEIPT_DUE, DAY);
-    if (state == CRZ_STATE_FIRST_PAID) {
-        crz_put_u32(receipt + CRZ_RECEIPT_CONFIRMED, CONFIRMED);
-        crz_put_u32(receipt + CRZ_RECEIPT_PAID, PAID);
-    }
+}
+
+/* about a third confirmed, with what is paid for it (02 3/12), and half as much pending */
+static void put_invoices(uint8_t *image, unsigned number)
+{
+    uint8_t *receipt = image + crz_receipt_offset(number);
+    struct crz_receipt_fields fields = crz_get_receipt(image, number);
+    uint64_t paid = crz_rest_payment(&fields) * CONFIRMED / crz_full_payment(&fields);
+    crz_put_u32(receipt + CRZ_RECEIPT_PENDING, PENDING);
+    crz_put_u32(receipt + CRZ_RECEIPT_CONFIRMED, CONFIRMED);
+    crz_put_u32(receipt + CRZ_RECEIPT_PAID, (uint32_t)paid);
 }
 
 /* below 0, none and above 0 by turns, so that lots of every state have all three */
@@ -96,6 +104,8 @@ static void put_receipt(uint8_t *image, unsigned number, unsigned state)
     if (state != CRZ_STATE_IDLE && state != CRZ_STATE_PENALTY_DUE)
         put_terms(receipt, number);
     put_trade(receipt, state, buyer);
+    if (state == CRZ_STATE_FIRST_PAID)
+        put_invoices(image, number);
     fields = crz_get_receipt(image, number);
     add_to(image + crz_account_offset(buyer) + CRZ_ACCOUNT_FROZEN, crz_held_money(&fields));
     add_to(image + CRZ_IMAGE_TOTAL, crz_held_money(&fields));
@@ -136,6 +146,12 @@ static void idle(uint8_t *image)
     put_money(image, BIDDER, CRZ_DEPOSIT);
 }
 
+/* one trade with an invoice pending; all else is empty */
+static void idle_but_trade(uint8_t *image)
+{
+    put_receipt(image, TRADE, CRZ_STATE_FIRST_PAID);
+}
+
 /* a bid on each of 128 lots of one contract, at 64 prices in no order, two bids at each; money in every account */
 static void bid_for(uint8_t *image)
 {
@@ -160,7 +176,8 @@ struct row {
     uint32_t number; /* what is returned */
 };
 
-/* on the busy image LOT has a standing bid at PRICE, of contract 1; on the idle one it is listed */
+/* on the busy image LOT has a standing bid at PRICE, of contract 1; on the idle one it is listed. TRADE waits for PAYER
+ * to confirm an invoice */
 static const struct row rows[] = {
     {"quote, busy", busy, CRZ_KIND_QUOTE, 0, 0, 1, PRICE, CRZ_NUMBER_ACCEPTED},
     {"quote, idle", idle, CRZ_KIND_QUOTE, 0, 0, 1, PRICE, CRZ_NUMBER_ACCEPTED},
@@ -173,6 +190,8 @@ static const struct row rows[] = {
     {"limit bid, idle", idle, CRZ_KIND_LIMIT_BID, BIDDER, LOT, 0, PRICE + 5, CRZ_NUMBER_ACCEPTED},
     {"morning close, busy", busy, CRZ_KIND_MORNING_CLOSE, 0, 0, 0, 0, CRZ_NUMBER_ACCEPTED},
     {"morning close, idle", idle, CRZ_KIND_MORNING_CLOSE, 0, 0, 0, 0, CRZ_NUMBER_ACCEPTED},
+    {"confirmation, busy", busy, CRZ_KIND_CONFIRM, PAYER, TRADE, 0, 0, CRZ_NUMBER_ACCEPTED},
+    {"confirmation, idle", idle_but_trade, CRZ_KIND_CONFIRM, PAYER, TRADE, 0, 0, CRZ_NUMBER_ACCEPTED},
     {"refusal, busy", busy, CRZ_KIND_LODGE, 1, 1, 0, 0, CRZ_NUMBER_WRONG_STATE},
     {"refusal, idle", idle, CRZ_KIND_LODGE, 1, 1, 0, 0, CRZ_NUMBER_WRONG_STATE},
 };

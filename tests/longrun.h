@@ -58,7 +58,7 @@ uint64_t edge_value(void);
 
 /* Each changes a valid image and returns the receipt that it concerns, 0 for none. */
 
-/* puts a field or a bit out of place */
+/* puts a field or a bit out of place; what is paid of a trade may follow the field */
 uint64_t damage_image(uint8_t *image);
 
 /* a bid that stands at the ask or beside it, or a lot that is overdue: valid, though no run of calls leads there */

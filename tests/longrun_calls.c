@@ -224,14 +224,16 @@ static void bid_or_withdraw(struct request *q, const struct crz_receipt_fields *
         ask_for(q, CRZ_KIND_WITHDRAW_LISTING, party(receipt->seller), number, 0);
 }
 
-/* an invoice in parts, the last one exact, now and then one fen over */
+/* an invoice in parts, the last one exact, now and then one fen over, or all but the last fen */
 static uint64_t some_invoice(uint64_t left)
 {
     uint64_t draw = below(100);
-    if (draw < 35)
+    if (draw < 30)
         return left;
-    if (draw < 45)
+    if (draw < 40)
         return left + 1 + below(2);
+    if (draw < 45)
+        return left > 1 ? left - 1 : 1;
     if (draw < 60)
         return 1 + below(3);
     return draw < 64 ? limit_amount() : 1 + below(left + 1);

@@ -2,7 +2,8 @@
  * What the long run has reached. Everything that can occur must occur: a pair of kind and number that never came, an
  * outcome, a contract that nothing was struck at, strikes of one quote at one price and at several, an amount or a
  * total at its limit, a premium at the ends of its range, every outcome of lots with a premium of either sign and with
- * none, a tonne that costs nothing or one yuan.
+ * none, a tonne that costs nothing or one yuan; parts of the rest of nothing, as large as the invoice's own share and
+ * one fen larger, and images in which a fen too much or too little of it is paid.
  */
 #include "longrun.h"
 
@@ -75,6 +76,18 @@ static unsigned long bids_at[BIDDERS][VERDICTS][PRICES];
 /* premiums put into images: three that may be, then four that may not */
 enum put_in { AT_LEAST, AT_MOST, ONE_YUAN, BELOW_LEAST, ABOVE_MOST, NOBODYS, NOTHING, PUT_INS };
 static unsigned long put_in[VERDICTS][PUT_INS];
+
+/* confirmed invoices, a lot's last apart: all; of one fen; not a lot's first; those that paid nothing, their own share
+ * of the rest, a fen more, anything else. A lot's last always pays something. */
+enum part { ANY_PART, OF_ONE_FEN, AFTER_OTHERS, PAID_NOTHING, PAID_SHARE, PAID_FEN_MORE, PAID_OTHER, PARTS };
+enum { NOT_LAST, LAST, TURNS };
+static unsigned long parts[TURNS][PARTS];
+
+/* trades of made-up images whose invoices are others, all sums fitting: what is paid with nothing confirmed, and with
+ * something, is what it must be, a fen more, a fen less */
+enum paid { MUST_BE, FEN_MORE, FEN_LESS, PAIDS };
+enum { NOTHING_CONFIRMED, SOME_CONFIRMED, CONFIRMEDS };
+static unsigned long put_paid[CONFIRMEDS][VERDICTS][PAIDS];
 
 /* quotes that struck two lots or more; with two at one price, at different prices, both; quotes that struck all lots */
 enum { SEVERAL, AT_ONE_PRICE, AT_DIFFERENT_PRICES, AT_BOTH, EVERY_LOT, QUOTES };
@@ -216,6 +229,22 @@ static void count_premium_and_price(const struct made *made, uint8_t kind)
         count_bid(made, &call, bidder);
 }
 
+/* an accepted confirmation */
+static void count_part(const struct made *made)
+{
+    struct crz_receipt_fields trade = crz_get_receipt(made->before, made->request->call[CRZ_CALL_RECEIPT]);
+    uint64_t full = crz_full_payment(&trade), part = crz_get_entry(made->answer, 0).number;
+    uint64_t share = crz_rest_payment(&trade) * trade.pending / full;
+    unsigned long *counts = parts[(uint64_t)trade.confirmed + trade.pending == full ? LAST : NOT_LAST];
+    counts[ANY_PART]++;
+    counts[OF_ONE_FEN] += trade.pending == 1;
+    counts[AFTER_OTHERS] += trade.confirmed != 0;
+    counts[PAID_NOTHING] += part == 0;
+    counts[PAID_SHARE] += part == share;
+    counts[PAID_FEN_MORE] += part == share + 1;
+    counts[PAID_OTHER] += part != share && part != share + 1;
+}
+
 void count_call(const struct made *made)
 {
     uint8_t kind = kind_of(made->request);
@@ -226,6 +255,8 @@ void count_call(const struct made *made)
     count_premium_and_price(made, kind);
     if (made->number == CRZ_NUMBER_ACCEPTED)
         count_entries(made, kind);
+    if (made->number == CRZ_NUMBER_ACCEPTED && kind == CRZ_KIND_CONFIRM)
+        count_part(made);
     /* numbers 1 to 3 are returned whatever the amount is */
     if (made->number == CRZ_NUMBER_ACCEPTED || made->number > CRZ_NUMBER_BAD_CALL)
         count_amount(kind, amount);
@@ -262,13 +293,44 @@ static void count_put_in(const struct made *made, uint32_t lot)
         put_in[bad][what]++;
 }
 
+/* what is paid went up by so much, modulo 2^64; frozen money and total went down by the same: then the sums fit */
+static int is_booked(const struct made *made, uint32_t buyer, uint64_t more)
+{
+    uint64_t frozen = crz_get_account(made->before, buyer).frozen, total = crz_get_total(made->before);
+    return frozen + more == crz_get_account(made->sound, buyer).frozen && total + more == crz_get_total(made->sound);
+}
+
+/* a trade whose pending, confirmed or paid is another: what decides is counted, and that alone */
+static void count_put_paid(const struct made *made, uint32_t lot)
+{
+    struct crz_receipt_fields now = crz_get_receipt(made->before, lot), then = crz_get_receipt(made->sound, lot);
+    int bad = made->number == CRZ_NUMBER_BAD_IMAGE, some = now.confirmed != 0;
+    uint64_t full = crz_full_payment(&now), must = full == 0 ? 0 : crz_rest_payment(&now) * now.confirmed / full;
+    uint32_t beside = now.paid - (uint32_t)must;
+    if (now.state != CRZ_STATE_FIRST_PAID || then.state != now.state || full != crz_full_payment(&then)
+        || !is_booked(made, now.buyer, (uint64_t)now.paid - then.paid))
+        return;
+    put_paid[some][bad][MUST_BE] += beside == 0 && !bad;
+    put_paid[some][bad][FEN_MORE] += beside == 1;
+    put_paid[some][bad][FEN_LESS] += beside == UINT32_MAX;
+}
+
+static int other_invoices(const struct crz_receipt_fields *one, const struct crz_receipt_fields *other)
+{
+    return one->pending != other->pending || one->confirmed != other->confirmed || one->paid != other->paid;
+}
+
 void count_damaged(const struct made *made)
 {
     uint32_t lot;
     damaged[made->number == CRZ_NUMBER_BAD_IMAGE]++;
-    for (lot = 1; lot <= CRZ_RECEIPT_COUNT; lot++)
-        if (crz_get_receipt(made->before, lot).premium != crz_get_receipt(made->sound, lot).premium)
+    for (lot = 1; lot <= CRZ_RECEIPT_COUNT; lot++) {
+        struct crz_receipt_fields now = crz_get_receipt(made->before, lot), then = crz_get_receipt(made->sound, lot);
+        if (now.premium != then.premium)
             count_put_in(made, lot);
+        if (other_invoices(&now, &then))
+            count_put_paid(made, lot);
+    }
 }
 
 void count_stray(const struct made *made)
@@ -376,6 +438,19 @@ static void show_premiums(void)
     show_row("image is not", put_in[1], "---++++");
 }
 
+static void show_parts(void)
+{
+    printf("%-22s %6s %6s %6s %6s %6s %6s %6s\n", "confirmed invoice", "all", "1 fen", "later", "paid 0", "share",
+        "share+", "else");
+    show_row("not the last", parts[NOT_LAST], "++++++-");
+    show_row("the last", parts[LAST], "+++-++-");
+    printf("%-22s %6s %6s %6s\n", "paid put in", "right", "+1", "-1");
+    show_row("nothing confirmed", put_paid[NOTHING_CONFIRMED][0], "+--");
+    show_row("image is not valid", put_paid[NOTHING_CONFIRMED][1], "-++");
+    show_row("something confirmed", put_paid[SOME_CONFIRMED][0], "+--");
+    show_row("image is not valid", put_paid[SOME_CONFIRMED][1], "-++");
+}
+
 void show_counts(unsigned long *reached, unsigned long *unreached)
 {
     show_kinds();
@@ -383,6 +458,7 @@ void show_counts(unsigned long *reached, unsigned long *unreached)
     show_strikes();
     show_amounts();
     show_premiums();
+    show_parts();
     printf("%-22s %6s %6s\n", "made-up images", "valid", "not");
     show_row("a field out of place", damaged, "++");
     show_row("valid, not reached", stray, "+-");

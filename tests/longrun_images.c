@@ -91,6 +91,13 @@ static uint64_t premium_limit(const struct crz_receipt_fields *receipt)
     return (uint64_t)end - 1 + below(3);
 }
 
+/* what is paid of the rest where this much is confirmed (02 3/12); 0 for a lot without a price */
+static uint64_t paid_for(const struct crz_receipt_fields *receipt)
+{
+    uint64_t full = crz_full_payment(receipt);
+    return full == 0 ? 0 : crz_rest_payment(receipt) * receipt->confirmed / full;
+}
+
 /* a value at the field's own limit, or just beyond */
 static uint64_t limit_of(const struct crz_receipt_fields *receipt, unsigned offset)
 {
@@ -100,25 +107,43 @@ static uint64_t limit_of(const struct crz_receipt_fields *receipt, unsigned offs
     case CRZ_RECEIPT_BASIS: return beyond - receipt->price - (uint64_t)receipt->premium;
     case CRZ_RECEIPT_PREMIUM: return premium_limit(receipt);
     case CRZ_RECEIPT_PENDING: return full - confirmed + beyond;
-    case CRZ_RECEIPT_CONFIRMED: return full - receipt->pending - 1 + beyond;
-    case CRZ_RECEIPT_PAID: return beyond + (full ? crz_rest_payment(receipt) * confirmed / full : 0);
+    case CRZ_RECEIPT_CONFIRMED: return percent(30) ? 0 : full - receipt->pending - 1 + beyond;
+    case CRZ_RECEIPT_PAID: return paid_for(receipt) - 1 + below(3);
     default: return percent(50) ? receipt->seller : receipt->buyer;
     }
 }
 
-/* any field; the premium, the last, more often, for few lots have a price near which it decides */
-static const struct field *some_receipt_field(void)
+enum { RECEIPT_FIELDS = sizeof receipt_fields / sizeof receipt_fields[0], INVOICE_FIELDS = 3 };
+
+/* any field; the premium, the last, more often, for few lots have a price near which it decides; of a lot that is paid
+ * in parts often one of the three before it, which say how far that has gone */
+static const struct field *some_receipt_field(uint32_t state)
 {
-    size_t last = sizeof receipt_fields / sizeof receipt_fields[0] - 1;
-    return &receipt_fields[percent(20) ? last : (size_t)below(last + 1)];
+    const struct field *premium = &receipt_fields[RECEIPT_FIELDS - 1];
+    uint64_t draw = below(100);
+    if (draw < 20)
+        return premium;
+    if (state == CRZ_STATE_FIRST_PAID && draw < 60)
+        return premium - 1 - below(INVOICE_FIELDS);
+    return &receipt_fields[below(RECEIPT_FIELDS)];
+}
+
+/* what is paid follows another field of the lot, so that it is not what decides */
+static void fit_paid(uint8_t *image, uint64_t number)
+{
+    struct crz_receipt_fields receipt = crz_get_receipt(image, (uint32_t)number);
+    uint8_t *paid = image + crz_receipt_offset((uint32_t)number) + CRZ_RECEIPT_PAID;
+    crz_put_bytes(paid, 4, paid_for(&receipt));
 }
 
 static void damage_receipt(uint8_t *image, uint64_t number)
 {
     struct crz_receipt_fields receipt = crz_get_receipt(image, (uint32_t)number);
-    const struct field *f = some_receipt_field();
+    const struct field *f = some_receipt_field(receipt.state);
     uint64_t value = percent(80) ? limit_of(&receipt, f->offset) : random_word();
     displace(image + crz_receipt_offset((uint32_t)number) + f->offset, f->size, value);
+    if (receipt.state == CRZ_STATE_FIRST_PAID && f->offset != CRZ_RECEIPT_PAID && percent(70))
+        fit_paid(image, number);
     if (percent(60))
         rebook(image);
 }
@@ -154,10 +179,20 @@ static void flip_bit(uint8_t *image)
     image[place] = (uint8_t)(image[place] ^ 1u << below(8));
 }
 
-/* now and then of any receipt, so that one that nobody has registered gets a field too */
+/* now and then any receipt, so that one that nobody has registered gets a field too, and now and then the next one
+ * whose lot is paid in parts */
+static uint64_t some_receipt(const uint8_t *image)
+{
+    uint64_t most = percent(15) ? CRZ_RECEIPT_COUNT : plan.receipts, number = between(1, most), next = number;
+    int in_parts = percent(30);
+    while (in_parts && next < most && crz_get_receipt(image, (uint32_t)next).state != CRZ_STATE_FIRST_PAID)
+        next++;
+    return in_parts ? next : number;
+}
+
 uint64_t damage_image(uint8_t *image)
 {
-    uint64_t draw = below(100), most = percent(15) ? CRZ_RECEIPT_COUNT : plan.receipts, number = between(1, most);
+    uint64_t draw = below(100), number = some_receipt(image);
     if (draw < 60) {
         damage_receipt(image, number);
         return number;

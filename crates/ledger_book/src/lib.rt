@@ -35,6 +35,7 @@ pub use payments::DEPOSIT;
 pub use payments::first_payment;
 pub use payments::full_payment;
 pub use payments::minus;
+pub use payments::paid_of_rest;
 pub use payments::part_payment;
 pub use payments::plus;
 pub use payments::product;

@@ -68,11 +68,13 @@ pub fn rest_payment(full: u64) -> u64 {
     minus(full, first_payment(full))
 }
 
-// What a confirmed invoice pays: its share of the rest, or all that is left of the rest if it is the last (01 Money 5 and 6).
-pub fn part_payment(full: u64, confirmed: u64, paid: u64, invoice: u64) -> u64 {
-    let rest = rest_payment(full);
-    if plus(confirmed, invoice) == full {
-        return minus(rest, paid);
-    }
-    share(rest, invoice, full)
+// What is paid of the rest once this much is confirmed, however it was cut into invoices (02 3/12).
+pub fn paid_of_rest(full: u64, confirmed: u64) -> u64 {
+    share(rest_payment(full), confirmed, full)
+}
+
+// What a confirmed invoice pays: what is paid of the rest with it, less what is paid without it.
+pub fn part_payment(full: u64, confirmed: u64, invoice: u64) -> u64 {
+    let with_it = paid_of_rest(full, plus(confirmed, invoice));
+    minus(with_it, paid_of_rest(full, confirmed))
 }

@@ -1,4 +1,4 @@
-// Whether the image that the book has is valid (01 Image 7 to 17, 02 2/12).
+// Whether the image that the book has is valid (01 Image 7 to 17, 02 2/12 and 3/12).
 use ledger_book::ACCOUNT_COUNT;
 use ledger_book::ACCOUNT_OFFSET;
 use ledger_book::ACCOUNT_START;
@@ -51,10 +51,9 @@ use ledger_book::is_premium;
 use ledger_book::is_price;
 use ledger_book::is_weight;
 use ledger_book::lower;
+use ledger_book::paid_of_rest;
 use ledger_book::plus;
 use ledger_book::records_of;
-use ledger_book::rest_payment;
-use ledger_book::share;
 use ledger_book::unit_price;
 use ledger_book::within;
 
@@ -183,16 +182,16 @@ fn price_ok(book: &Book, lot: u64) -> bool {
     !within(cell(book, STATE, lot), 2, 6) | (unit >= 1)
 }
 
-// Invoices stay within the full payment, and what is paid within the share of those confirmed.
+// Invoices stay within the full payment, and as much of the rest is paid as those confirmed call for.
 fn invoices_ok(book: &Book, lot: u64) -> bool {
     let full = full_of(book, lot);
     let confirmed = cell(book, CONFIRMED, lot);
     let invoiced = plus(confirmed, cell(book, PENDING, lot));
-    let most_paid = share(rest_payment(full), confirmed, full);
+    let paid = paid_of_rest(full, confirmed);
     if cell(book, STATE, lot) != 6 {
         return true;
     }
-    (confirmed < full) & (invoiced <= full) & (cell(book, PAID, lot) <= most_paid)
+    (confirmed < full) & (invoiced <= full) & (cell(book, PAID, lot) == paid)
 }
 
 fn lots_ok(book: &Book) -> bool {

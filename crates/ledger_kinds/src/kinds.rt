@@ -175,17 +175,12 @@ fn invoice(book: &mut Book, c: Call) {
     note_from_seller(book, c.receipt, 10, c.amount);
 }
 
-// The invoice is paid its part; with the last one the lot ends (01 Calls 24).
+// The invoice is paid its part; with the last one the lot ends (01 Calls 24, 02 3/12).
 fn confirm(book: &mut Book, c: Call) {
     let lot = c.receipt;
     let full = full_of(book, lot);
     let pending = cell(book, PENDING, lot);
-    let fen = part_payment(
-        full,
-        cell(book, CONFIRMED, lot),
-        cell(book, PAID, lot),
-        pending,
-    );
+    let fen = part_payment(full, cell(book, CONFIRMED, lot), pending);
     pay(book, lot, 11, fen);
     raise(book, PAID, lot, fen);
     raise(book, CONFIRMED, lot, pending);

@@ -16,7 +16,7 @@ use longrun_calls::Plan;
 use longrun_calls::TO_LIMIT;
 use longrun_counts::Tally;
 use longrun_counts::empty_tally;
-use longrun_counts::print_all;
+use longrun_tables::print_all;
 
 fn plan(seed: u64, calls: u64, receipts: u64, accounts: u64, closes: u64) -> Plan {
     Plan {

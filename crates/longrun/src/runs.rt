@@ -47,9 +47,10 @@ fn judge_altered(seed: &mut u64, plan: Plan, image: &Page, tally: &mut Tally) {
 }
 
 fn make(q: Request, image: &mut Page, second: &mut Page, tally: &mut Tally) {
+    let before: Page = *image;
     let mut answer: Page = filled();
     let v = drive(q, image, second, &mut answer);
-    count_call(q, v, image, &answer, tally);
+    count_call(q, v, &before, image, &answer, tally);
 }
 
 fn next_call(seed: &mut u64, plan: Plan, image: &mut Page, second: &mut Page, tally: &mut Tally) {

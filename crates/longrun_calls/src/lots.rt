@@ -172,17 +172,20 @@ fn lodge_or_wait(seed: &mut u64, accounts: u64, image: &Page, lot: u64) -> Reque
 
 // ── Payment ─────────────────────────────────────────────────────────────────────────────────────
 
-// Invoices in parts, the last one exact, now and then one or two fen over, or about the most that a call may name.
+// Invoices in parts, the last one exact, now and then one or two fen over, about the most that a call may name, or all but the last fen.
 fn invoice_amount(seed: &mut u64, left: u64) -> u64 {
     let draw = below(seed, 100);
-    if draw < 35 {
+    if draw < 30 {
         return left;
     }
-    if draw < 45 {
+    if draw < 40 {
         return plus(left, between(seed, 1, 2));
     }
-    if draw < 50 {
+    if draw < 45 {
         return beside(seed, MOST_AMOUNT);
+    }
+    if draw < 50 {
+        return minus(left, 1);
     }
     if draw < 60 {
         return between(seed, 1, 3);

@@ -1,7 +1,9 @@
 // What a call has reached.
 use crate::limits::count_limits;
 use crate::limits::count_premiums;
-use crate::rows::line;
+use crate::lines::line;
+use crate::parts::count_part;
+use crate::parts::count_trades;
 use crate::tally::AT_BOTH;
 use crate::tally::AT_DIFFERENT_PRICES;
 use crate::tally::AT_ONE_PRICE;
@@ -198,7 +200,14 @@ fn kind_row(kind: u64) -> u64 {
 }
 
 // Counts a call that was driven; image and answer are as they are after it.
-pub fn count_call(q: Request, v: Verdict, image: &Page, answer: &Page, tally: &mut Tally) {
+pub fn count_call(
+    q: Request,
+    v: Verdict,
+    before: &Page,
+    image: &Page,
+    answer: &Page,
+    tally: &mut Tally,
+) {
     let number = v.of_library;
     add(tally, CALLS, 1);
     add(tally, pair(kind_row(q.kind), number), 1);
@@ -206,6 +215,9 @@ pub fn count_call(q: Request, v: Verdict, image: &Page, answer: &Page, tally: &m
     if number == 0 {
         count_entries(image, answer, tally);
         count_contract(q, image, answer, tally);
+    }
+    if (number == 0) & (q.kind == 14) {
+        count_part(q, before, answer, tally);
     }
     show(b"difference at call ", q.kind, v, tally);
 }
@@ -216,6 +228,7 @@ pub fn count_altered(q: Request, v: Verdict, sound: &Page, altered: &Page, tally
     let number = v.of_library;
     count_limits(q, altered, v.total, number, tally);
     count_premiums(sound, altered, number, tally);
+    count_trades(sound, altered, number, tally);
     if number == 2 {
         add(tally, REFUSED_IMAGES, 1);
     } else {

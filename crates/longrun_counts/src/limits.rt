@@ -48,7 +48,7 @@ fn count_number(tally: &mut Tally, place: u64, number: u64, refusal: u64) {
 }
 
 // Counts a value that is at a limit or beside it, with the number that the call returned.
-fn count_limit(tally: &mut Tally, limit: u64, distance: u64, number: u64, refusal: u64) {
+pub fn count_limit(tally: &mut Tally, limit: u64, distance: u64, number: u64, refusal: u64) {
     let step = plus(distance, 1);
     if step <= 2 {
         count_number(tally, at_limit(limit, step), number, refusal);

@@ -74,13 +74,36 @@ pub const ALTERED_HIGHEST_PREMIUM: u64 = 10;
 
 pub const ALTERED_PRICE: u64 = 11;
 
-pub const LIMIT_COUNT: u64 = 12;
+// What is paid of the rest in an image whose trade has other invoices, beside what it must be: with something confirmed, and with nothing.
+pub const PAID_FOR_SOME: u64 = 12;
+
+pub const PAID_FOR_NOTHING: u64 = 13;
+
+pub const LIMIT_COUNT: u64 = 14;
 
 // Images with a premium in the record of a receipt that nobody has: the same three counts.
 pub const NOBODYS_PREMIUM: u64 = LIMITS + LIMIT_COUNT * 9;
 
+// Confirmed invoices, and behind them those that were a lot's last. Of each: all, those of one fen, those that were not a lot's first,
+// and those that paid nothing, their own share of the rest, one fen more, anything else.
+pub const PARTS: u64 = NOBODYS_PREMIUM + 3;
+
+pub const OF_ONE_FEN: u64 = 1;
+
+pub const AFTER_OTHERS: u64 = 2;
+
+pub const PAID_NOTHING: u64 = 3;
+
+pub const PAID_SHARE: u64 = 4;
+
+pub const PAID_FEN_MORE: u64 = 5;
+
+pub const PAID_OTHER: u64 = 6;
+
+pub const COUNTS_OF_PART: u64 = 7;
+
 // Single counts.
-pub const CALLS: u64 = NOBODYS_PREMIUM + 3;
+pub const CALLS: u64 = PARTS + 2 * COUNTS_OF_PART;
 
 pub const DIFFERENCES: u64 = CALLS + 1;
 

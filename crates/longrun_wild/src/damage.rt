@@ -5,10 +5,13 @@ use crate::values::displace;
 use crate::values::limit_in_receipt;
 use crate::values::limit_in_zone;
 use ledger_book::ASK;
+use ledger_book::CONFIRMED;
 use ledger_book::CONTRACTS;
 use ledger_book::FREE;
 use ledger_book::FROZEN;
 use ledger_book::OWNER;
+use ledger_book::PAID;
+use ledger_book::PENDING;
 use ledger_book::PREMIUM;
 use ledger_book::Page;
 use ledger_book::RECEIPT_COLUMNS_END;
@@ -18,20 +21,42 @@ use ledger_book::TOTAL;
 use ledger_book::ZONE;
 use ledger_book::minus;
 use ledger_book::page_cell;
+use ledger_book::paid_of_rest;
 use ledger_book::plus;
+use ledger_book::set_page_cell;
 use longrun_calls::Plan;
 use longrun_draws::below;
 use longrun_draws::between;
+use longrun_draws::full_of;
 use longrun_draws::percent;
 
-// Any field; the premium more often, for few lots have a price near which it decides.
-fn damage_receipt(seed: &mut u64, image: &mut Page, lot: u64) {
-    let mut column = between(seed, OWNER, RECEIPT_COLUMNS_END - 1);
-    if percent(seed, 20) {
-        column = PREMIUM;
+// Any field; the premium more often, for few lots have a price near which it decides, and of a lot that is paid in parts those that say
+// how far that has gone.
+fn some_column(seed: &mut u64, in_parts: bool) -> u64 {
+    let draw = below(seed, 100);
+    if draw < 20 {
+        return PREMIUM;
     }
+    if in_parts & (draw < 60) {
+        return between(seed, PENDING, PAID);
+    }
+    between(seed, OWNER, RECEIPT_COLUMNS_END - 1)
+}
+
+// What is paid follows another field of the lot, so that it is not what decides.
+fn fit_paid(image: &mut Page, lot: u64) {
+    let paid = paid_of_rest(full_of(image, lot), page_cell(image, CONFIRMED, lot));
+    set_page_cell(image, PAID, lot, paid);
+}
+
+fn damage_receipt(seed: &mut u64, image: &mut Page, lot: u64) {
+    let in_parts = page_cell(image, STATE, lot) == 6;
+    let column = some_column(seed, in_parts);
     let limit = limit_in_receipt(seed, image, lot, column);
     displace(seed, image, column, lot, limit);
+    if percent(seed, 70) & in_parts & (column != PAID) {
+        fit_paid(image, lot);
+    }
     if percent(seed, 60) {
         rebook(image);
     }

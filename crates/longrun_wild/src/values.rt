@@ -26,11 +26,10 @@ use ledger_book::WEIGHT;
 use ledger_book::is_premium;
 use ledger_book::minus;
 use ledger_book::page_cell;
+use ledger_book::paid_of_rest;
 use ledger_book::plus;
 use ledger_book::product;
-use ledger_book::rest_payment;
 use ledger_book::set_page_cell;
-use ledger_book::share;
 use longrun_draws::below;
 use longrun_draws::beside;
 use longrun_draws::between;
@@ -61,6 +60,15 @@ fn premium_edge(seed: &mut u64, price: u64, basis: u64) -> u64 {
     beside(seed, MOST_PREMIUM)
 }
 
+// The most that can be confirmed beside what is pending, or one fen more; now and then nothing.
+fn confirmed_edge(seed: &mut u64, full: u64, pending: u64) -> u64 {
+    let beyond = below(seed, 2);
+    if percent(seed, 30) {
+        return 0;
+    }
+    minus(plus(full, beyond), plus(pending, 1))
+}
+
 // A value at the field's own limit or just beyond, which other fields of the receipt may set.
 pub fn limit_in_receipt(seed: &mut u64, image: &Page, lot: u64, column: u64) -> u64 {
     let beyond = below(seed, 2);
@@ -78,8 +86,8 @@ pub fn limit_in_receipt(seed: &mut u64, image: &Page, lot: u64, column: u64) -> 
         PREMIUM => premium_edge(seed, price, page_cell(image, BASIS, lot)),
         PRICE => price_edge(seed),
         PENDING => plus(minus(full, confirmed), beyond),
-        CONFIRMED => minus(plus(full, beyond), plus(page_cell(image, PENDING, lot), 1)),
-        PAID => plus(share(rest_payment(full), confirmed, full), beyond),
+        CONFIRMED => confirmed_edge(seed, full, page_cell(image, PENDING, lot)),
+        PAID => beside(seed, paid_of_rest(full, confirmed)),
         _ => below(seed, 9),
     }
 }

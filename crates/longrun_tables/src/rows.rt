@@ -1,35 +1,5 @@
 // The tables that the program writes.
 use crate::edges::missed_edges;
-use crate::tally::ALTERED_HIGHEST_PREMIUM;
-use crate::tally::ALTERED_LEAST_PREMIUM;
-use crate::tally::ALTERED_PRICE;
-use crate::tally::CALLS;
-use crate::tally::COUNTS_OF_CONTRACT;
-use crate::tally::COUNTS_OF_OUTCOME;
-use crate::tally::DIFFERENCES;
-use crate::tally::FRESH;
-use crate::tally::HIGHEST_PREMIUM;
-use crate::tally::INVOICE_AMOUNT;
-use crate::tally::KIND_ROWS;
-use crate::tally::LAST_PAYMENT;
-use crate::tally::LEAST_PREMIUM;
-use crate::tally::LIMIT_BID_PRICE;
-use crate::tally::MARKET_BID_PRICE;
-use crate::tally::MOST_ENTRIES;
-use crate::tally::NOBODYS_PREMIUM;
-use crate::tally::NUMBERS;
-use crate::tally::PAY_IN_AMOUNT;
-use crate::tally::REFUSED_IMAGES;
-use crate::tally::TAKE_OUT_AMOUNT;
-use crate::tally::TOTAL_AFTER;
-use crate::tally::TOTAL_BEFORE;
-use crate::tally::Tally;
-use crate::tally::VALID_IMAGES;
-use crate::tally::at_limit;
-use crate::tally::counted;
-use crate::tally::of_contract;
-use crate::tally::of_outcome;
-use crate::tally::pair;
 use ledger_book::CONTRACTS;
 use ledger_book::MOST_AMOUNT;
 use ledger_book::MOST_PREMIUM;
@@ -38,14 +8,43 @@ use ledger_book::minus;
 use ledger_book::plus;
 use ledger_book::product;
 use ledger_book::within;
+use longrun_counts::ALTERED_HIGHEST_PREMIUM;
+use longrun_counts::ALTERED_LEAST_PREMIUM;
+use longrun_counts::ALTERED_PRICE;
+use longrun_counts::CALLS;
+use longrun_counts::COUNTS_OF_CONTRACT;
+use longrun_counts::COUNTS_OF_OUTCOME;
+use longrun_counts::COUNTS_OF_PART;
+use longrun_counts::DIFFERENCES;
+use longrun_counts::FRESH;
+use longrun_counts::HIGHEST_PREMIUM;
+use longrun_counts::INVOICE_AMOUNT;
+use longrun_counts::KIND_ROWS;
+use longrun_counts::LAST_PAYMENT;
+use longrun_counts::LEAST_PREMIUM;
+use longrun_counts::LIMIT_BID_PRICE;
+use longrun_counts::MARKET_BID_PRICE;
+use longrun_counts::MOST_ENTRIES;
+use longrun_counts::NOBODYS_PREMIUM;
+use longrun_counts::NUMBERS;
+use longrun_counts::PAID_FOR_NOTHING;
+use longrun_counts::PAID_FOR_SOME;
+use longrun_counts::PARTS;
+use longrun_counts::PAY_IN_AMOUNT;
+use longrun_counts::REFUSED_IMAGES;
+use longrun_counts::TAKE_OUT_AMOUNT;
+use longrun_counts::TOTAL_AFTER;
+use longrun_counts::TOTAL_BEFORE;
+use longrun_counts::Tally;
+use longrun_counts::VALID_IMAGES;
+use longrun_counts::at_limit;
+use longrun_counts::counted;
+use longrun_counts::line;
+use longrun_counts::of_contract;
+use longrun_counts::of_outcome;
+use longrun_counts::pair;
 
 // ── Lines and rows ──────────────────────────────────────────────────────────────────────────────
-
-pub fn line(words: &[u8], value: u64) {
-    io::write_all(1, words);
-    io::print_decimal(1, value);
-    io::write_all(1, b"\n");
-}
 
 // A number, to the right in a column of seven.
 fn aligned(value: u64) {
@@ -248,10 +247,24 @@ fn print_altered(tally: &Tally) {
         plus(NOBODYS_PREMIUM, 1),
         2,
     );
-    line(
-        b"edges of premiums that no call reached: ",
-        missed_edges(tally),
+}
+
+fn print_parts(tally: &Tally) {
+    io::write_all(
+        1,
+        b"confirmed invoices (the second row: a lot's last): all, of 1 fen, after others, paid nothing, their share, one fen more, else\n",
     );
+    rows(tally, 1, 3, PARTS, COUNTS_OF_PART);
+    io::write_all(
+        1,
+        b"paid put into a trade beside what it must be, something confirmed: calls, accepted, refused by 2\n",
+    );
+    limit_rows(tally, PAID_FOR_SOME, 0);
+    io::write_all(
+        1,
+        b"paid put into a trade beside what it must be, nothing confirmed: calls, accepted, refused by 2\n",
+    );
+    limit_rows(tally, PAID_FOR_NOTHING, 0);
 }
 
 // ── All ─────────────────────────────────────────────────────────────────────────────────────────
@@ -262,6 +275,11 @@ pub fn print_all(tally: &Tally) {
     print_limits(tally);
     print_premiums(tally);
     print_altered(tally);
+    print_parts(tally);
+    line(
+        b"edges of premiums and parts that no call reached: ",
+        missed_edges(tally),
+    );
     line(
         b"altered images refused by 2: ",
         counted(tally, REFUSED_IMAGES),

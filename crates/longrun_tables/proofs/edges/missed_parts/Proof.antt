@@ -1,16 +1,13 @@
 use borrow.Author.Needs.{needs}
 use Rattle.ledger_book.specs.Loops.{left}
-use Rattle.longrun_counts.proofs.rows.row.Statement.{statement}
-use Rattle.longrun_counts.proofs.rows.row.Tie as tie
+use Rattle.longrun_tables.proofs.edges.missed_parts.Statement.{statement}
+use Rattle.longrun_tables.proofs.edges.missed_parts.Tie as tie
 
 abbrev Inv-loop : tie.InvT-loop
-Inv-loop tally name place width k₀ t6 k = Unit {0}
+Inv-loop tally missed₀ k₀ missed k = Unit {0}
 
 abbrev μ-loop : tie.MeasureT-loop
-μ-loop tally name place width k₀ t6 k = left k
-
-aligned-requires : tie.Need-aligned-requires Inv-loop μ-loop
-aligned-requires c κs = search needs
+μ-loop tally missed₀ k₀ missed k = left k
 
 loop-holds : tie.Need-loop-holds Inv-loop μ-loop
 loop-holds c = search needs
@@ -21,8 +18,11 @@ plus-requires c κs = search needs
 counted-requires : tie.Need-counted-requires Inv-loop μ-loop
 counted-requires c κs = search needs
 
-aligned-requires-2 : tie.Need-aligned-requires-2 Inv-loop μ-loop
-aligned-requires-2 c κs = search needs
+is-part-requires : tie.Need-is-part-requires Inv-loop μ-loop
+is-part-requires c κs = search needs
+
+plus-requires-2 : tie.Need-plus-requires-2 Inv-loop μ-loop
+plus-requires-2 c κs = search needs
 
 add-k : tie.Need-add-k Inv-loop μ-loop
 add-k c = search needs
@@ -33,29 +33,21 @@ loop-less c = search needs
 loop-again : tie.Need-loop-again Inv-loop μ-loop
 loop-again c = search needs
 
-slice-aggregate-write-all : tie.Need-slice-aggregate-write-all Inv-loop μ-loop
-slice-aggregate-write-all c = search needs
-
-write-all-requires : tie.Need-write-all-requires Inv-loop μ-loop
-write-all-requires c κs = search needs
-
 returns : tie.Need-returns Inv-loop μ-loop
 returns c = search needs
 
-pub row-spec : {M : Type 1} → statement M
-row-spec =
+pub missed-parts-spec : {M : Type 1} → statement M
+missed-parts-spec =
     tie.close
     (tie.spec
     Inv-loop
     μ-loop
-    aligned-requires
     loop-holds
     plus-requires
     counted-requires
-    aligned-requires-2
+    is-part-requires
+    plus-requires-2
     add-k
     loop-less
     loop-again
-    slice-aggregate-write-all
-    write-all-requires
     returns)

@@ -1,7 +1,7 @@
 use borrow.Author.Needs.{needs}
 use Rattle.ledger_book.specs.Loops.{left}
-use Rattle.longrun_counts.proofs.rows.numbers_row.Statement.{statement}
-use Rattle.longrun_counts.proofs.rows.numbers_row.Tie as tie
+use Rattle.longrun_tables.proofs.rows.numbers_row.Statement.{statement}
+use Rattle.longrun_tables.proofs.rows.numbers_row.Tie as tie
 
 abbrev Inv-loop : tie.InvT-loop
 Inv-loop number₀ t3 number = Unit {0}

@@ -1,7 +1,7 @@
 use borrow.Author.Needs.{needs}
 use Rattle.ledger_book.specs.Loops.{left}
-use Rattle.longrun_counts.proofs.rows.limit_rows.Statement.{statement}
-use Rattle.longrun_counts.proofs.rows.limit_rows.Tie as tie
+use Rattle.longrun_tables.proofs.rows.limit_rows.Statement.{statement}
+use Rattle.longrun_tables.proofs.rows.limit_rows.Tie as tie
 
 abbrev Inv-loop : tie.InvT-loop
 Inv-loop tally limit value step₀ t6 step = Unit {0}

@@ -1,7 +1,7 @@
 use borrow.Author.Needs.{needs}
 use Rattle.ledger_book.specs.Loops.{left}
-use Rattle.longrun_counts.proofs.rows.rows.Statement.{statement}
-use Rattle.longrun_counts.proofs.rows.rows.Tie as tie
+use Rattle.longrun_tables.proofs.rows.rows.Statement.{statement}
+use Rattle.longrun_tables.proofs.rows.rows.Tie as tie
 
 abbrev Inv-loop : tie.InvT-loop
 Inv-loop tally first end place width name₀ name = Unit {0}

@@ -1,6 +1,6 @@
 use borrow.Author.Needs.{needs}
-use Rattle.longrun_counts.proofs.rows.aligned.Statement.{statement}
-use Rattle.longrun_counts.proofs.rows.aligned.Tie as tie
+use Rattle.longrun_tables.proofs.rows.aligned.Statement.{statement}
+use Rattle.longrun_tables.proofs.rows.aligned.Tie as tie
 
 abbrev Inv-loop : tie.InvT-loop
 Inv-loop value bound₀ t3 bound = Unit {0}

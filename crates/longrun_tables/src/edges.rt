@@ -1,16 +1,22 @@
-// What request 2 of document 02 has at its edges and no call reached.
-use crate::tally::ALTERED_HIGHEST_PREMIUM;
-use crate::tally::HIGHEST_PREMIUM;
-use crate::tally::LAST_PAYMENT;
-use crate::tally::LEAST_PREMIUM;
-use crate::tally::LIMIT_COUNT;
-use crate::tally::NOBODYS_PREMIUM;
-use crate::tally::PREMIUM_CLASSES;
-use crate::tally::Tally;
-use crate::tally::at_limit;
-use crate::tally::counted;
-use crate::tally::of_outcome;
+// What requests 2 and 3 of document 02 have at their edges and no call reached.
 use ledger_book::plus;
+use longrun_counts::ALTERED_HIGHEST_PREMIUM;
+use longrun_counts::COUNTS_OF_PART;
+use longrun_counts::HIGHEST_PREMIUM;
+use longrun_counts::LAST_PAYMENT;
+use longrun_counts::LEAST_PREMIUM;
+use longrun_counts::LIMIT_COUNT;
+use longrun_counts::NOBODYS_PREMIUM;
+use longrun_counts::PAID_FOR_NOTHING;
+use longrun_counts::PAID_FOR_SOME;
+use longrun_counts::PAID_NOTHING;
+use longrun_counts::PAID_OTHER;
+use longrun_counts::PARTS;
+use longrun_counts::PREMIUM_CLASSES;
+use longrun_counts::Tally;
+use longrun_counts::at_limit;
+use longrun_counts::counted;
+use longrun_counts::of_outcome;
 
 // Whether the calls counted from `place` on are not as they must be: some accepted where the value is one that may be; elsewhere none, and
 // some refused by the limit's own number.
@@ -20,8 +26,11 @@ fn is_missed(tally: &Tally, place: u64, may_be: bool) -> bool {
     (accepted != may_be) | !(may_be | refused)
 }
 
-// Of the limits of request 2, two end a range and the others begin one.
+// Of the limits of request 2, two end a range and the others begin one; request 3 leaves one number.
 fn may_be(limit: u64, step: u64) -> bool {
+    if (limit == PAID_FOR_SOME) | (limit == PAID_FOR_NOTHING) {
+        return step == 1;
+    }
     if (limit == HIGHEST_PREMIUM) | (limit == ALTERED_HIGHEST_PREMIUM) {
         return step < 2;
     }
@@ -58,8 +67,27 @@ fn missed_outcomes(tally: &Tally) -> u64 {
     missed
 }
 
+// Whether an invoice can be counted there, from all that are not a lot's last on: the last one pays something, and every one its own
+// share of the rest or one fen more.
+fn is_part(k: u64) -> bool {
+    let what = k % COUNTS_OF_PART;
+    (what != PAID_OTHER) & (k != COUNTS_OF_PART + PAID_NOTHING)
+}
+
+fn missed_parts(tally: &Tally) -> u64 {
+    let mut missed: u64 = 0;
+    for k in 0..2 * COUNTS_OF_PART {
+        let reached = counted(tally, plus(PARTS, k)) != 0;
+        if reached != is_part(k) {
+            missed = plus(missed, 1);
+        }
+    }
+    missed
+}
+
 pub fn missed_edges(tally: &Tally) -> u64 {
-    let mut missed = plus(missed_limits(tally), missed_outcomes(tally));
+    let missed_sums = plus(missed_limits(tally), missed_parts(tally));
+    let mut missed = plus(missed_sums, missed_outcomes(tally));
     if is_missed(tally, NOBODYS_PREMIUM, false) {
         missed = plus(missed, 1);
     }
