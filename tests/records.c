@@ -277,6 +277,54 @@ static void life(void)
     expect(make() == CRZ_NUMBER_ACCEPTED && held_is_frozen(9, 2), "first paid");
 }
 
+/* an invoice and its confirmation: the header says beforehand what is paid and what is left to invoice */
+static void confirm_part(uint32_t invoice, uint64_t part, uint64_t left)
+{
+    struct crz_receipt_fields r;
+    crz_put_invoice(call, 1, 9, invoice);
+    expect(make() == CRZ_NUMBER_ACCEPTED, "invoiced");
+    r = crz_get_receipt(image, 9);
+    expect(crz_next_part(&r) == part && crz_left_to_invoice(&r) == left, "the next part, and what is left");
+    expect(crz_paid_of_rest(&r, r.confirmed) == r.paid, "paid is the formula");
+    crz_put_confirm(call, 2, 9);
+    expect(make() == CRZ_NUMBER_ACCEPTED && crz_get_entry(answer, 0).number == part, "the part that was paid");
+    r = crz_get_receipt(image, 9);
+    expect(crz_next_part(&r) == 0, "nothing to confirm");
+}
+
+/* the lot of `life`: a fen of another paid, moved between buyer and seller, and the image is not valid */
+static void other_paid(void)
+{
+    struct crz_receipt_fields r = crz_get_receipt(image, 9);
+    uint8_t *paid = image + crz_receipt_offset(9) + CRZ_RECEIPT_PAID;
+    uint8_t *frozen = image + crz_account_offset(2) + CRZ_ACCOUNT_FROZEN;
+    uint8_t *free_money = image + crz_account_offset(1) + CRZ_ACCOUNT_FREE;
+    static const int64_t changes[] = {-1, 1, 0};
+    size_t i;
+    for (i = 0; i < 3; i++) {
+        uint64_t now = r.paid + (uint64_t)changes[i];
+        crz_put_u32(paid, (uint32_t)now);
+        crz_put_u64(frozen, crz_rest_payment(&r) - now);
+        crz_put_u64(free_money, crz_first_payment(&r) + now);
+        expect(valid() == (changes[i] == 0), "paid a fen less, a fen more, and by the formula");
+    }
+}
+
+/* full 63,092,610, rest 12,618,522: a fen, which pays nothing, then a third, then all that is left */
+static void parts(void)
+{
+    struct crz_receipt_fields r = crz_get_receipt(image, 9);
+    expect(crz_left_to_invoice(&r) == 63092610 && crz_next_part(&r) == 0, "all is left to invoice");
+    expect(crz_paid_of_rest(&r, 0) == 0 && crz_paid_of_rest(&r, 63092609) == 12618521, "the ends of the formula");
+    expect(crz_paid_of_rest(&r, 63092610) == 12618522, "at full the whole rest");
+    other_paid();
+    confirm_part(1, 0, 63092609);
+    confirm_part(21030870, 4206174, 42061739);
+    other_paid();
+    confirm_part(42061739, 8412348, 0);
+    expect(crz_get_receipt(image, 9).state == CRZ_STATE_IDLE && crz_get_account(image, 1).free == 63092610, "all paid");
+}
+
 static int premium_is(int32_t premium)
 {
     return crz_get_receipt(image, 9).premium == premium;
@@ -431,6 +479,7 @@ int main(void)
     payments(5, 0, -5, 1000, 0, 0);
     payments(200000, 50000, 5000, 60000, 1530000000, 1224000000);
     life();
+    parts();
     premiums();
     printf("%lu passed, %lu failed\n", passed, failed);
     return failed != 0;
