@@ -70,10 +70,9 @@ static void put_invoices(uint8_t *image, unsigned number)
 {
     uint8_t *receipt = image + crz_receipt_offset(number);
     struct crz_receipt_fields fields = crz_get_receipt(image, number);
-    uint64_t paid = crz_rest_payment(&fields) * CONFIRMED / crz_full_payment(&fields);
     crz_put_u32(receipt + CRZ_RECEIPT_PENDING, PENDING);
     crz_put_u32(receipt + CRZ_RECEIPT_CONFIRMED, CONFIRMED);
-    crz_put_u32(receipt + CRZ_RECEIPT_PAID, (uint32_t)paid);
+    crz_put_u32(receipt + CRZ_RECEIPT_PAID, (uint32_t)crz_paid_of_rest(&fields, CONFIRMED));
 }
 
 /* below 0, none and above 0 by turns, so that lots of every state have all three */
