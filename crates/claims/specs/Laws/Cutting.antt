@@ -1,6 +1,6 @@
 -- A trade in state 6: from the rule of each kind to every call, and from there to every list of calls.
 -- Assumes nothing.
-use mathlib.Core.Bool.{Bool, true, false, cond, _&&_, true≢false}
+use mathlib.Core.Bool.{Bool, true, false, cond, true≢false}
 use mathlib.Core.List.{List, [], _∷_}
 use mathlib.Core.Logic.{_≢_}
 use mathlib.Core.Path.{_≡_, refl, sym, ap, _∙_, subst}
@@ -21,7 +21,6 @@ use Rattle.zone.specs.Held.{full, rest}
 use Rattle.zone.specs.Laws.Facts.{owner-some}
 use Rattle.zone.specs.Laws.Tests.{both}
 use Rattle.zone.specs.Record.{recordOf, tradeOf}
-use Rattle.rules.specs.declared.AtLot.the-variants.{Event}
 use Rattle.rules.specs.declared.Call.{Call}
 use Rattle.rules.specs.declared.Entry.{Entry}
 use Rattle.rules.specs.declared.View.{View}
@@ -32,7 +31,7 @@ use Rattle.rules.specs.Laws.Good.{Good, valid-at}
 use Rattle.rules.specs.Laws.Keeps.{opened, ended, opening-good}
 use Rattle.rules.specs.Laws.Kinds.{withKind, ByKind, by-kind}
 use Rattle.rules.specs.Laws.Links.{tested, visit-kind, at-named, Linked, Walk, good-walk, receipt-at, receipt-beside}
-use Rattle.rules.specs.Laws.Passed.{PassedAt, in-state, by-party}
+use Rattle.rules.specs.Laws.Passed.{in-state, by-party}
 use Rattle.rules.specs.Laws.Receipts.{PartPaid, part-paid, partOf}
 use Rattle.rules.specs.Steps.{numberOn}
 use Rattle.rules.specs.Tables.{among}

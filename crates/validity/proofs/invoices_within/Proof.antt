@@ -1,5 +1,4 @@
 -- Full payment, confirmed and pending are at most `mostFull` fen, so no sum wraps; each early answer is a test that fails.
-use mathlib.Core.Path.{_≡_}
 use Prim.Native.Nat.{_≤_, _<_, _+_}
 use native.Mathlib.Omega.{arith}
 use borrow.Author.Tests.{lt-ltb, le-ltb, lt-leb}
