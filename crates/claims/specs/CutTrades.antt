@@ -1,5 +1,5 @@
--- One trade cut in several ways (02 3/12), by computing from a fresh zone: full 100 fen and a rest of 20, as in example 4, where the parts of 33, 33 and 34
--- stand. Every way comes to 20, and those that come to 50 on the way have paid 10 there.
+-- One trade cut in several ways (02 3/12), by computing from a fresh zone: full 100 fen and a rest of 20, as in example 4, which has the
+-- parts of 33, 33 and 34. Every way comes to 20, and those that come to 50 on the way have paid 10 there.
 -- Assumes nothing.
 use mathlib.Core.List.{List, [], _∷_, _++_}
 use mathlib.Core.Path.{_≡_, refl}
@@ -29,18 +29,18 @@ abbrev invoicePays : ℕ → ℕ → List Reply
 invoicePays invoice part = oneEntry 7 10 1 2 invoice ∷ oneEntry 7 11 2 1 part ∷ []
 
 -- the replies to calls once the first payment is taken
-abbrev then : List Call → List Reply
-then calls = replay calls (zoneAfter firstPaid freshZone)
+abbrev repliesTo : List Call → List Reply
+repliesTo calls = replay calls (zoneAfter firstPaid freshZone)
 
 pub record CutTrades : Type 0 where
-  pub whole : then (invoices (100 ∷ [])) ≡ invoicePays 100 20
-  pub halves : then (invoices (50 ∷ 50 ∷ [])) ≡ invoicePays 50 10 ++ invoicePays 50 10
-  pub uneven : then (invoices (33 ∷ 17 ∷ 50 ∷ [])) ≡ invoicePays 33 6 ++ (invoicePays 17 4 ++ invoicePays 50 10)
+  pub whole : repliesTo (invoices (100 ∷ [])) ≡ invoicePays 100 20
+  pub halves : repliesTo (invoices (50 ∷ 50 ∷ [])) ≡ invoicePays 50 10 ++ invoicePays 50 10
+  pub uneven : repliesTo (invoices (33 ∷ 17 ∷ 50 ∷ [])) ≡ invoicePays 33 6 ++ (invoicePays 17 4 ++ invoicePays 50 10)
   -- parts of 0 fen are listed, and the fifth fen invoiced pays 1
-  pub small : then (invoices (1 ∷ 1 ∷ 1 ∷ 1 ∷ 1 ∷ 45 ∷ 50 ∷ [])) ≡
+  pub small : repliesTo (invoices (1 ∷ 1 ∷ 1 ∷ 1 ∷ 1 ∷ 45 ∷ 50 ∷ [])) ≡
       invoicePays 1 0 ++ (invoicePays 1 0 ++ (invoicePays 1 0 ++ (invoicePays 1 0 ++ (invoicePays 1 1 ++ (invoicePays 45 9 ++ invoicePays 50 10)))))
   -- other calls between, a refused one among them
-  pub between : then (sendsInvoice 1 7 50 ∷ dayClose ∷ confirms 2 7 ∷ confirms 2 7 ∷ quote 1 5 ∷ invoices (50 ∷ [])) ≡
+  pub between : repliesTo (sendsInvoice 1 7 50 ∷ dayClose ∷ confirms 2 7 ∷ confirms 2 7 ∷ quote 1 5 ∷ invoices (50 ∷ [])) ≡
       oneEntry 7 10 1 2 50 ∷ noEntries ∷ oneEntry 7 11 2 1 10 ∷ refusedWith 6 ∷ noEntries ∷ invoicePays 50 10
   -- on the way the lot holds the rest less what is paid, and nothing at the end
   pub halfway-paid : recordAfter 7 (firstPaid ++ invoices (33 ∷ 17 ∷ [])) .paid .0 ≡ 10

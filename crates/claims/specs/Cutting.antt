@@ -25,7 +25,7 @@ use Rattle.claims.specs.History.{Reply, refusedWith, acceptedWith}
 abbrev pub lotIn : List ℕ → ℕ → Record
 lotIn image k = recordOfReceipt (decode image) k
 
--- the fen of an entry that is an outcome 11 of lot k
+-- the fen of an entry that is an outcome 11 of lot k; any other entry counts 0
 abbrev pub partIn : ℕ → Entry → ℕ
 partIn k e = cond (eqb (e .lot) k && eqb (e .outcome) 11) (e .number) 0
 
@@ -41,22 +41,23 @@ partsOf k (acceptedWith es) = partsIn k es
 
 -- ── A trade followed over calls ────────────────────────────────────────────────────────────────
 
--- how far a trade has come that was in state 6: whether it is over, and the sum of its outcomes 11 up to then
-pub record Course : Type 0 where
+-- what became of a trade that was in state 6: whether it is over, and the sum of its outcomes 11 up to then
+pub record Followed : Type 0 where
   pub over : Bool
   pub parts : ℕ
 
--- One call more, by the image that it left and its reply. Once the lot is not in state 6 the trade is over, and nothing is counted from then on: a later trade of the
--- same receipt is another one.
-abbrev pub onward : ℕ → List ℕ → Reply → Course → Course
-onward k image reply c = cond (c .over) c (record { over = not (eqb (lotIn image k .state) 6); parts = c .parts + partsOf k reply })
+-- One call more, by the image that it left and its reply. Once the lot is not in state 6 the trade is over, and nothing is counted from
+-- then on: a later trade of the same receipt is another one.
+abbrev pub afterCall : ℕ → List ℕ → Reply → Followed → Followed
+afterCall k image reply t = cond (t .over) t (record { over = not (eqb (lotIn image k .state) 6); parts = t .parts + partsOf k reply })
 
 -- the trade of lot k over a list of calls, the oldest first
-unfoldable pub follow : (k : ℕ) {start : List ℕ} {list : List Exchange} {image : List ℕ} → MadeFrom start list image → Course
+unfoldable pub follow : (k : ℕ) {start : List ℕ} {list : List Exchange} {image : List ℕ} → MadeFrom start list image → Followed
 follow k noCalls = record { over = false; parts = 0 }
-follow k (next m call answer number image′ answer′ R) = onward k image′ (replyOf number answer′) (follow k m)
+follow k (next m call answer number image′ answer′ R) = afterCall k image′ (replyOf number answer′) (follow k m)
 
--- its confirmed sum: while it goes on the image's, once it is over full payment
+-- Its confirmed sum: while it goes on the image's, and full payment once it is over, because nothing but the confirmation that brings it
+-- to full ends it (`OverAtFull`).
 abbrev pub confirmedSum : (k : ℕ) {start : List ℕ} {list : List Exchange} {image : List ℕ} → MadeFrom start list image → ℕ
 confirmedSum k {start} {list} {image} m = cond (follow k m .over) (full (lotIn start k) .0) (lotIn image k .confirmed .0)
 
@@ -79,7 +80,8 @@ CutAlike =
     → confirmedSum k made₁ ≡ confirmedSum k made₂
     → follow k made₁ .parts ≡ follow k made₂ .parts
 
--- What a call makes of lot k in state 6: the same trade goes on in state 6, or its buyer has confirmed the invoice that brings it to full.
+-- What a call makes of lot k in state 6 (01 Calls 24): the same trade goes on in state 6, or its buyer has confirmed the invoice that
+-- brings it to full.
 pub data Proceeds (k : ℕ) (image : List ℕ) (c : Call) (number : ℕ) (image′ : List ℕ) : Type 0 where
   goesOn : lotIn image′ k .state ≡ 6 → tradeOf (lotIn image′ k) ≡ tradeOf (lotIn image k) → full (lotIn image′ k) ≡ full (lotIn image k)
       → Proceeds k image c number image′
@@ -87,7 +89,7 @@ pub data Proceeds (k : ℕ) (image : List ℕ) (c : Call) (number : ℕ) (image�
       → lotIn image k .confirmed .0 + lotIn image k .pending .0 ≡ full (lotIn image k) .0 → lotIn image′ k .state ≡ 0
       → Proceeds k image c number image′
 
--- of every call, so that a course is over where a confirmation brought the trade to full, and nowhere else
+-- of every call: a trade that is followed is over where a confirmation brought it to full, and nowhere else
 abbrev pub OverAtFull : Type 0
 OverAtFull =
     (image call answer : List ℕ) (number : ℕ) (image′ answer′ : List ℕ) → Returned image call answer number image′ answer′

@@ -1,5 +1,5 @@
--- The money of a trade (01 Money, with the premium of 02 2/12 and the parts of 02 3/12). Each unit is a type of its own, declared in src/lib.rt, so that no price
--- can stand where money is asked for.
+-- The money of a trade (01 Money, with the premium of 02 2/12 and the parts of 02 3/12). Each unit is a type of its own, declared in
+-- src/lib.rt, so that no price can stand where money is asked for.
 -- Assumes nothing.
 use mathlib.Core.Bool.{Bool}
 use Prim.Native.Nat.{ℕ, _+_, _-_, _*_, _/_, min}
@@ -44,13 +44,13 @@ firstPayment full = fen (full .0 * 80 / 100)
 unfoldable pub restPayment : Fen → Fen
 restPayment full = fen (full .0 - firstPayment full .0)
 
--- Of the rest, what invoices confirmed up to this sum have been paid together (02 3/12, in place of 01 Money 5 and 6): the rest's share, the fraction
--- dropped. At 0 it is nothing and at full the whole rest (`so-far-none`, `so-far-full`, Laws/Bounds).
+-- Of the rest, what invoices confirmed up to this sum have been paid together (02 3/12, in place of 01 Money 5 and 6): the share of the
+-- rest that the sum has of full, the fraction dropped. At 0 it is nothing, at full the whole rest (`so-far-none`, `so-far-full`, Laws/Bounds).
 unfoldable pub paidSoFar : Fen → Fen → Fen
 paidSoFar full confirmed = fen (restPayment full .0 * confirmed .0 / full .0)
 
--- What the confirmation of an invoice pays, where `confirmed` and `paid` stand before it (02 3/12): the difference. Nothing is taken that is not
--- there: `part-brings` (Laws/Bounds).
+-- What the confirmation of an invoice pays, where `confirmed` and `paid` stand before it (02 3/12): the difference. Nothing is taken that
+-- is not there: `part-brings` (Laws/Bounds).
 unfoldable pub partPayment : Fen → Fen → Fen → Fen → Fen
 partPayment full confirmed paid invoice = fen (paidSoFar full (fen (confirmed .0 + invoice .0)) .0 - paid .0)
 

@@ -165,11 +165,11 @@ pub fn paid_so_far(full: Fen, confirmed: Fen) -> Fen
     let rest = rest_payment(full).0;
     let all = full.0;
     let sum = confirmed.0;
-    let share = rest * sum;
-    Fen(share / all)
+    let product = rest * sum;
+    Fen(product / all)
 }
 
-// Whether `paid` is that. Products are compared, because they cost less than a division.
+// Whether `paid` is what invoices confirmed up to this sum have been paid. Products are compared, because they cost less than a division.
 pub fn is_paid_so_far(full: Fen, confirmed: Fen, paid: Fen) -> bool
     requires { ⌜ (full .0 < 2 ^ 32) × (confirmed .0 < full .0) ⌝ }
     ensures { λ r. ⌜ r ≡ eqb (paid .0) (paidSoFar full confirmed .0) ⌝ }
@@ -181,9 +181,9 @@ pub fn is_paid_so_far(full: Fen, confirmed: Fen, paid: Fen) -> bool
     if rest < so_far {
         return false;
     }
-    let share = rest * sum;
-    let least = so_far * all;
-    (least <= share) & (share < least + all)
+    let product = rest * sum;
+    let lower = so_far * all;
+    (lower <= product) & (product < lower + all)
 }
 
 // What the confirmation of an invoice pays, where `confirmed` and `paid` stand before it.

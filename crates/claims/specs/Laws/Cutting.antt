@@ -12,7 +12,6 @@ use lib.Dec.{eqb, leb}
 use Rattle.units.specs.declared.Fen.{Fen}
 use Rattle.units.specs.Laws.Bounds.{so-far-full}
 use Rattle.units.specs.Payments.{fen, restPayment, paidSoFar}
-use Rattle.zone.specs.declared.Invoices.{Invoices}
 use Rattle.zone.specs.declared.Lot.the-variants.{Idle, FirstPaid}
 use Rattle.zone.specs.declared.Receipt.{Receipt}
 use Rattle.zone.specs.declared.Record.{Record}
@@ -32,20 +31,18 @@ use Rattle.rules.specs.Laws.Keeps.{opened, ended, opening-good}
 use Rattle.rules.specs.Laws.Kinds.{withKind, ByKind, by-kind}
 use Rattle.rules.specs.Laws.Links.{tested, visit-kind, at-named, Linked, Walk, good-walk, receipt-at, receipt-beside}
 use Rattle.rules.specs.Laws.Passed.{in-state, by-party}
-use Rattle.rules.specs.Laws.Receipts.{PartPaid, part-paid, partOf}
+use Rattle.rules.specs.Laws.Receipts.{PartPaid, part-paid, partOf, confirmedInvoices}
 use Rattle.rules.specs.Steps.{numberOn}
 use Rattle.rules.specs.Tables.{among}
 use Rattle.rules.specs.View.{viewOf, receiptOfNumber, recordOfReceipt}
 use Rattle.image.specs.Image.{validImage, decode, encode}
-use Rattle.image.specs.Laws.RoundTrip.{valid-decode}
 use Rattle.answers.specs.Buffers.{callIn}
-use Rattle.lots.specs.Laws.Visits.{good-decode}
 use Rattle.crz.specs.Laws.Returned.{Left, refused, accepted, returned-case}
 use Rattle.crz.specs.Returned.{recordNumber}
-use Rattle.claims.specs.Cutting.{lotIn, partIn, partsIn, Course, onward, follow, PartsBySum, CutAlike, Proceeds, goesOn, isOver, OverAtFull}
+use Rattle.claims.specs.Cutting.{lotIn, partIn, partsIn, Followed, afterCall, follow, PartsBySum, CutAlike, Proceeds, goesOn, isOver, OverAtFull}
 use Rattle.claims.specs.Demand.{Exchange, MadeFrom, noCalls, next, replyOf}
 use Rattle.claims.specs.History.{acceptedWith}
-use Rattle.claims.specs.Laws.Demand.{Zero, zero-for, new-zone, read-back, stays-valid}
+use Rattle.claims.specs.Laws.Demand.{good-image, Zero, zero-for, new-zone, read-back, stays-valid}
 use Rattle.claims.specs.Laws.Order.{answer-permuted}
 use Rattle.claims.specs.PriceOrder.{Permuted, none as no-more, keep, swap, via}
 
@@ -53,17 +50,17 @@ use Rattle.claims.specs.PriceOrder.{Permuted, none as no-more, keep, swa
 
 -- Record f of lot k in state 6 becomes f′ by a call that pays `parts` of the rest: its trade goes on, or the call was the confirmation that
 -- brings it to full.
-data Turn (c : Call) (k : ℕ) (f : Record) (parts : ℕ) (f′ : Record) : Type 0 where
-  on : f′ .state ≡ 6 → tradeOf f′ ≡ tradeOf f → full f′ ≡ full f → f .paid .0 + parts ≡ f′ .paid .0 → Turn c k f parts f′
-  off : c .kind ≡ 14 → c .receipt ≡ k → c .account ≡ f .buyer → f .confirmed .0 + f .pending .0 ≡ full f .0 → f′ .state ≡ 0
-      → f .paid .0 + parts ≡ rest f .0 → Turn c k f parts f′
+data Becomes (c : Call) (k : ℕ) (f : Record) (parts : ℕ) (f′ : Record) : Type 0 where
+  remains : f′ .state ≡ 6 → tradeOf f′ ≡ tradeOf f → full f′ ≡ full f → f .paid .0 + parts ≡ f′ .paid .0 → Becomes c k f parts f′
+  ends : c .kind ≡ 14 → c .receipt ≡ k → c .account ≡ f .buyer → f .confirmed .0 + f .pending .0 ≡ full f .0 → f′ .state ≡ 0
+      → f .paid .0 + parts ≡ rest f .0 → Becomes c k f parts f′
 
 -- what an entry of the lot pays of the rest
 abbrev ownPart : Entry → ℕ
 ownPart e = cond (eqb (e .outcome) 11) (e .number) 0
 
-abbrev TurnAt : Call → ℕ → Record → Entry → Receipt → Type 0
-TurnAt c n f e r = Turn c n f (ownPart e) (recordOf r)
+abbrev BecomesAt : Call → ℕ → Record → Entry → Receipt → Type 0
+BecomesAt c n f e r = Becomes c n f (ownPart e) (recordOf r)
 
 module _ (z : Zone) (G : Good z) (c : Call) (n : ℕ) (six : recordOfReceipt z n .state ≡ 6) where
   abbrev f : Record
@@ -73,15 +70,15 @@ module _ (z : Zone) (G : Good z) (c : Call) (n : ℕ) (six : recordOfReceipt z n
   other-state : {X : Type 0} (l : List ℕ) → among 6 l ≡ false → among (f .state) l ≡ true → X
   other-state l e h = absurd (true≢false (sym h ∙ ap (λ (s : ℕ). among s l) six ∙ e))
 
-  abbrev Turning : ℕ → Type 0
-  Turning k = Visit (withKind c k) z n → On (TurnAt (withKind c k) n f) (ruleAt (withKind c k) z n)
+  abbrev Becoming : ℕ → Type 0
+  Becoming k = Visit (withKind c k) z n → On (BecomesAt (withKind c k) n f) (ruleAt (withKind c k) z n)
 
   registration : {X : Type 0} → Visit (withKind c 3) z n → X
   registration v =
       let free : f .owner ≡ 0 = eqb-true (f .owner) 0 (not-false _ (not-true _ (in-state (tested refl v)))) in
       absurd (owner-some f (valid-at z G n) (omega arith) free)
 
-  morning-close : On (TurnAt (withKind c 11) n f) (closeLot (viewOf z (c .account) f) n f)
+  morning-close : On (BecomesAt (withKind c 11) n f) (closeLot (viewOf z (c .account) f) n f)
   unfolding closeLot
   morning-close =
       only (leb (f .due) (viewOf z (c .account) f .day)) _ λ _.
@@ -89,24 +86,21 @@ module _ (z : Zone) (G : Good z) (c : Call) (n : ℕ) (six : recordOfReceipt z n
       chosen (among (f .state) (3 ∷ [])) _ _ (other-state (3 ∷ []) refl) λ _.
       only (among (f .state) (7 ∷ [])) _ (other-state (7 ∷ []) refl)
 
-  confirmation : Visit (withKind c 14) z n → On (TurnAt (withKind c 14) n f) (confirm n f)
+  confirmation : Visit (withKind c 14) z n → On (BecomesAt (withKind c 14) n f) (confirm n f)
   unfolding confirm recordOf full
   confirmation v = go (eqb (f .confirmed .0 + f .pending .0) (full f .0)) refl
     where
       P : PartPaid f
       P = part-paid f (valid-at z G n) six
 
-      going : Invoices
-      going = record { pending = fen 0; confirmed = fen (f .confirmed .0 + f .pending .0); paid = fen (f .paid .0 + partOf f .0) }
-
       go : (b : Bool) → eqb (f .confirmed .0 + f .pending .0) (full f .0) ≡ b →
-          On (TurnAt (withKind c 14) n f) (eventOf n f (cond b Idle (FirstPaid (tradeOf f) going)) 11 (partOf f .0))
+          On (BecomesAt (withKind c 14) n f) (eventOf n f (cond b Idle (FirstPaid (tradeOf f) (confirmedInvoices f))) 11 (partOf f .0))
       go true q =
           let sum : f .confirmed .0 + f .pending .0 ≡ full f .0 = eqb-true _ _ q in
-          event (off refl (sym (at-named refl v)) (eqb-true _ _ (by-party (tested refl v))) sum refl (P .last sum))
-      go false q = event (on refl refl refl refl)
+          event (ends refl (sym (at-named refl v)) (eqb-true _ _ (by-party (tested refl v))) sum refl (P .last sum))
+      go false q = event (remains refl refl refl refl)
 
-  by-rule : ByKind Turning
+  by-rule : ByKind Becoming
   unfolding ruleOf noRule register listFor withdrawListing limitBid marketBid withdrawBid quoteLot lodge payFirst sendInvoice dayCloseLot recordOf full
   by-rule =
       let view : View = viewOf z (c .account) f in
@@ -123,14 +117,14 @@ module _ (z : Zone) (G : Good z) (c : Call) (n : ℕ) (six : recordOfReceipt z n
         lodge = λ v. other-state (3 ∷ []) refl (in-state (tested refl v));
         morningClose = λ v. morning-close;
         firstPayment = λ v. other-state (5 ∷ []) refl (in-state (tested refl v));
-        invoice = λ v. event (on refl refl refl (omega arith));
+        invoice = λ v. event (remains refl refl refl (omega arith));
         confirm = λ v. confirmation v;
         dayClose = λ v. only (among (f .state) (1 ∷ 2 ∷ [])) _ (other-state (1 ∷ 2 ∷ []) refl);
         noKind = λ k h v. absurd (true≢false (sym (visit-kind v) ∙ h));
       }
 
-  turns : Visit c z n → On (TurnAt c n f) (ruleAt c z n)
-  turns v = by-kind by-rule (c .kind) v
+  becomes : Visit c z n → On (BecomesAt c n f) (ruleAt c z n)
+  becomes v = by-kind by-rule (c .kind) v
 
 -- ── One call ───────────────────────────────────────────────────────────────────────────────────
 
@@ -149,147 +143,145 @@ parts-permuted k (keep {e = e} p) = ap (λ (n : ℕ). partIn k e + n) (parts-per
 parts-permuted k swap = omega arith
 parts-permuted k (via p q) = parts-permuted k p ∙ parts-permuted k q
 
-turn-as : {c : Call} {k : ℕ} {f : Record} {a b : ℕ} {f′ f″ : Record} → a ≡ b → f′ ≡ f″ → Turn c k f a f′ → Turn c k f b f″
-turn-as {c} {k} {f} {a} {b} {f′} {f″} p q T = subst (λ (g : Record). Turn c k f b g) q (subst (λ (n : ℕ). Turn c k f n f′) p T)
+becomes-as : {c : Call} {k : ℕ} {f : Record} {a b : ℕ} {f′ f″ : Record} → a ≡ b → f′ ≡ f″ → Becomes c k f a f′ → Becomes c k f b f″
+becomes-as {c} {k} {f} {a} {b} {f′} {f″} p q T = subst (λ (g : Record). Becomes c k f b g) q (subst (λ (n : ℕ). Becomes c k f n f′) p T)
 
--- a chain from lot lo on leaves a lot below lo, and is one turn of a trade that it finds in state 6
-record Passing (c : Call) (k lo : ℕ) (z : Zone) (es : List Entry) (last : Zone) : Type 0 where
-  behind : k < lo → (receiptOfNumber (last .receipts) k ≡ receiptOfNumber (z .receipts) k) × (partsIn k es ≡ 0)
-  turn : recordOfReceipt z k .state ≡ 6 → Turn c k (recordOfReceipt z k) (partsIn k es) (recordOfReceipt last k)
+-- a chain from lot lo on leaves a lot below lo; what it makes of a trade that it finds in state 6
+record OverChain (c : Call) (k lo : ℕ) (z : Zone) (es : List Entry) (last : Zone) : Type 0 where
+  untouched : k < lo → (receiptOfNumber (last .receipts) k ≡ receiptOfNumber (z .receipts) k) × (partsIn k es ≡ 0)
+  becomes : recordOfReceipt z k .state ≡ 6 → Becomes c k (recordOfReceipt z k) (partsIn k es) (recordOfReceipt last k)
 
 module _ {c : Call} {k lo : ℕ} {z : Zone} {es : List Entry} {last : Zone} {n : ℕ} {e : Entry} {r : Receipt} (L : Linked c lo z n e r)
-    (K : Passing c k (suc n) (posted z e r) es last) where
+    (K : OverChain c k (suc n) (posted z e r) es last) where
   lot-is : e .lot ≡ n
   lot-is = L .fit .entry .lot
 
-  passed-by : k ≢ e .lot → recordOfReceipt z k .state ≡ 6 → Turn c k (recordOfReceipt z k) (partIn k e + partsIn k es) (recordOfReceipt last k)
-  passed-by o s =
+  beside : k ≢ e .lot → recordOfReceipt z k .state ≡ 6 → Becomes c k (recordOfReceipt z k) (partIn k e + partsIn k es) (recordOfReceipt last k)
+  beside o s =
       let same = receipt-beside z e r k o in
       let none-here : partIn k e ≡ 0 = part-beside k e (λ q. o (sym q)) in
-      turn-as (omega (arith, none-here)) refl
-      (subst (λ (x : Receipt). recordOf x .state ≡ 6 → Turn c k (recordOf x) (partsIn k es) (recordOfReceipt last k)) same (K .turn) s)
+      becomes-as (omega (arith, none-here)) refl
+      (subst (λ (x : Receipt). recordOf x .state ≡ 6 → Becomes c k (recordOf x) (partsIn k es) (recordOfReceipt last k)) same (K .becomes) s)
 
-  turned : k ≡ e .lot → recordOfReceipt z k .state ≡ 6 → Turn c k (recordOfReceipt z k) (partIn k e + partsIn k es) (recordOfReceipt last k)
-  turned q s =
+  here : k ≡ e .lot → recordOfReceipt z k .state ≡ 6 → Becomes c k (recordOfReceipt z k) (partIn k e + partsIn k es) (recordOfReceipt last k)
+  here q s =
       let m : n ≡ k = sym lot-is ∙ sym q in
-      let after = K .behind (omega (arith, m)) in
+      let after = K .untouched (omega (arith, m)) in
       let at : receiptOfNumber (posted z e r .receipts) k ≡ r =
       rw q (receipt-at z e r (L .good .sized) (rw lot-is (L .low)) (rw lot-is (L .high))) in
       let six : recordOfReceipt z n .state ≡ 6 = rw m s in
-      let T : Turn c n (recordOfReceipt z n) (ownPart e) (recordOf r) = on-event (turns z (L .good) c n six (L .visit)) (L .rule) in
-      turn-as (omega (arith, part-own k e (sym q), after .1)) (sym (ap recordOf (after .0 ∙ at)))
-      (subst (λ (j : ℕ). Turn c j (recordOfReceipt z j) (ownPart e) (recordOf r)) m T)
+      let T : Becomes c n (recordOfReceipt z n) (ownPart e) (recordOf r) = on-event (becomes z (L .good) c n six (L .visit)) (L .rule) in
+      becomes-as (omega (arith, part-own k e (sym q), after .1)) (sym (ap recordOf (after .0 ∙ at)))
+      (subst (λ (j : ℕ). Becomes c j (recordOfReceipt z j) (ownPart e) (recordOf r)) m T)
 
-  pass : Passing c k lo z (e ∷ es) last
+  over-event : OverChain c k lo z (e ∷ es) last
   unfolding partsIn
-  pass =
+  over-event =
       record {
-        behind = λ h.
+        untouched = λ h.
             let o : k ≢ e .lot = λ q. omega (arith, L .above, lot-is) in
-            let after = K .behind (omega (arith, L .above)) in
+            let after = K .untouched (omega (arith, L .above)) in
             (after .0 ∙ receipt-beside z e r k o, omega (arith, part-beside k e (λ q. o (sym q)), after .1));
-        turn = λ s. go s (ℕ-discrete k (e .lot));
+        becomes = λ s. go s (ℕ-discrete k (e .lot));
       }
     where
-      go : recordOfReceipt z k .state ≡ 6 → Dec (k ≡ e .lot) → Turn c k (recordOfReceipt z k) (partIn k e + partsIn k es) (recordOfReceipt last k)
-      go s (yes q) = turned q s
-      go s (no o) = passed-by o s
+      go : recordOfReceipt z k .state ≡ 6 → Dec (k ≡ e .lot) → Becomes c k (recordOfReceipt z k) (partIn k e + partsIn k es) (recordOfReceipt last k)
+      go s (yes q) = here q s
+      go s (no o) = beside o s
 
-passing : (c : Call) (k : ℕ) → Walk c (Passing c k)
+over-chain : (c : Call) (k : ℕ) → Walk c (OverChain c k)
 unfolding partsIn
-passing c k =
+over-chain c k =
     record {
-      end = λ G. record { behind = λ h. (refl, refl); turn = λ s. on s refl refl (omega arith) };
-      step = λ L K. pass L K;
+      end = λ G. record { untouched = λ h. (refl, refl); becomes = λ s. remains s refl refl (omega arith) };
+      step = λ L K. over-event L K;
     }
 
-call-turn : (z : Zone) (c : Call) → Good z → numberOn z c ≡ 0 → (k : ℕ) → recordOfReceipt z k .state ≡ 6
-    → Turn c k (recordOfReceipt z k) (partsIn k (effect z c .entries)) (recordOfReceipt (effect z c .zone) k)
+call-becomes : (z : Zone) (c : Call) → Good z → numberOn z c ≡ 0 → (k : ℕ) → recordOfReceipt z k .state ≡ 6
+    → Becomes c k (recordOfReceipt z k) (partsIn k (effect z c .entries)) (recordOfReceipt (effect z c .zone) k)
 unfolding effect
-call-turn z c G q k s =
+call-becomes z c G q k s =
     let T : Taken z c = taken z c q in
     let of : List Receipt → Record = λ rs. recordOf (receiptOfNumber rs k) in
     let O : of (opening c z .receipts) ≡ of (z .receipts) = ap of (opened c z .receipts) in
-    let W : Turn c k (of (opening c z .receipts)) (partsIn k (atLots z c .entries)) (of (T .last .receipts)) =
-    good-walk (passing c k) (T .chain) (opening-good z G c (T .passed)) .turn (ap (λ (f : Record). f .state) O ∙ s) in
-    turn-as (parts-permuted k (answer-permuted (c .kind) (atLots z c .entries)))
+    let W : Becomes c k (of (opening c z .receipts)) (partsIn k (atLots z c .entries)) (of (T .last .receipts)) =
+    good-walk (over-chain c k) (T .chain) (opening-good z G c (T .passed)) .becomes (ap (λ (f : Record). f .state) O ∙ s) in
+    becomes-as (parts-permuted k (answer-permuted (c .kind) (atLots z c .entries)))
     (sym (ap (λ (y : Zone). of (y .receipts)) (T .zone) ∙ ap of (ended c (T .last) .receipts)))
-    (subst (λ (f : Record). Turn c k f (partsIn k (atLots z c .entries)) (of (T .last .receipts))) O W)
+    (subst (λ (f : Record). Becomes c k f (partsIn k (atLots z c .entries)) (of (T .last .receipts))) O W)
 
 -- ── On bytes ───────────────────────────────────────────────────────────────────────────────────
 
-good : (image : List ℕ) → validImage image ≡ true → Good (decode image)
-good image ok = good-decode image (valid-decode image ok)
-
 -- an accepted call on an image
-turn-on : (image : List ℕ) (c : Call) → Zero image c → (k : ℕ) → lotIn image k .state ≡ 6
-    → Turn c k (lotIn image k) (partsIn k (effect (decode image) c .entries)) (lotIn (encode (effect (decode image) c .zone)) k)
-turn-on image c Z k s =
-    turn-as refl (ap (λ (z : Zone). recordOfReceipt z k) (sym (new-zone image c Z)))
-    (call-turn (decode image) c (good image (Z .valid)) (Z .number) k s)
+becomes-on : (image : List ℕ) (c : Call) → Zero image c → (k : ℕ) → lotIn image k .state ≡ 6
+    → Becomes c k (lotIn image k) (partsIn k (effect (decode image) c .entries)) (lotIn (encode (effect (decode image) c .zone)) k)
+becomes-on image c Z k s =
+    becomes-as refl (ap (λ (z : Zone). recordOfReceipt z k) (sym (new-zone image c Z)))
+    (call-becomes (decode image) c (good-image image (Z .valid)) (Z .number) k s)
 
 pub over-at-full : OverAtFull
 over-at-full image call answer number image′ answer′ R k s =
     let C = returned-case image call answer number image′ answer′ R in
     go (C .left) (C .is)
   where
-    by-turn : {parts : ℕ} {i : List ℕ} → Turn (callIn call) k (lotIn image k) parts (lotIn i k) → Proceeds k image (callIn call) 0 i
-    by-turn (on six trade same paid) = goesOn six trade same
-    by-turn (off kind at by sum idle paid) = isOver refl kind at by sum idle
+    proceeds : {parts : ℕ} {i : List ℕ} → Becomes (callIn call) k (lotIn image k) parts (lotIn i k) → Proceeds k image (callIn call) 0 i
+    proceeds (remains six trade same paid) = goesOn six trade same
+    proceeds (ends kind at by sum idle paid) = isOver refl kind at by sum idle
 
     go : {n : ℕ} {i a : List ℕ} → Left image (callIn call) answer n i a → n ≡ recordNumber image call answer → Proceeds k image (callIn call) n i
     go (refused n) e = goesOn s refl refl
-    go accepted e = by-turn (turn-on image (callIn call) (zero-for image call answer e) k s)
+    go accepted e = proceeds (becomes-on image (callIn call) (zero-for image call answer e) k s)
 
 -- ── A list of calls ────────────────────────────────────────────────────────────────────────────
 
--- where the trade of a course stands in an image: in state 6, with what its outcomes 11 have added to what was paid; or over, with all of the rest
-data Stands (k : ℕ) (start image : List ℕ) (c : Course) : Type 0 where
-  going : c .over ≡ false → lotIn image k .state ≡ 6 → full (lotIn image k) ≡ full (lotIn start k)
-      → lotIn start k .paid .0 + c .parts ≡ lotIn image k .paid .0 → Stands k start image c
-  done : c .over ≡ true → lotIn start k .paid .0 + c .parts ≡ rest (lotIn start k) .0 → Stands k start image c
+-- How far a trade that is followed has come in an image: in state 6, with what its outcomes 11 have added to what was paid; or over, with
+-- all of the rest.
+data Reached (k : ℕ) (start image : List ℕ) (c : Followed) : Type 0 where
+  unfinished : c .over ≡ false → lotIn image k .state ≡ 6 → full (lotIn image k) ≡ full (lotIn start k)
+      → lotIn start k .paid .0 + c .parts ≡ lotIn image k .paid .0 → Reached k start image c
+  finished : c .over ≡ true → lotIn start k .paid .0 + c .parts ≡ rest (lotIn start k) .0 → Reached k start image c
 
--- over one turn of a trade that was going on
-turn-stands : (k : ℕ) (start image : List ℕ) (c : Course) (es : List Entry) (image′ : List ℕ) {call : Call} → c .over ≡ false
+-- over an accepted call on a trade that was not over
+accepted-reached : (k : ℕ) (start image : List ℕ) (c : Followed) (es : List Entry) (image′ : List ℕ) {call : Call} → c .over ≡ false
     → full (lotIn image k) ≡ full (lotIn start k) → lotIn start k .paid .0 + c .parts ≡ lotIn image k .paid .0
-    → Turn call k (lotIn image k) (partsIn k es) (lotIn image′ k) → Stands k start image′ (onward k image′ (acceptedWith es) c)
-turn-stands k start image c es image′ o same paid (on six trade same′ paid′) =
-    rw o (going (rw six) six (same′ ∙ same) (omega (arith, paid, paid′)))
-turn-stands k start image c es image′ o same paid (off kind at by sum idle paid′) =
-    rw o (done (rw idle) (omega (arith, paid, paid′, ap (λ (f : Fen). restPayment f .0) same)))
+    → Becomes call k (lotIn image k) (partsIn k es) (lotIn image′ k) → Reached k start image′ (afterCall k image′ (acceptedWith es) c)
+accepted-reached k start image c es image′ o same paid (remains six trade same′ paid′) =
+    rw o (unfinished (rw six) six (same′ ∙ same) (omega (arith, paid, paid′)))
+accepted-reached k start image c es image′ o same paid (ends kind at by sum idle paid′) =
+    rw o (finished (rw idle) (omega (arith, paid, paid′, ap (λ (f : Fen). restPayment f .0) same)))
 
 -- over one call, accepted or refused
-next-stands : (k : ℕ) {start image : List ℕ} {c : Course} (call answer : List ℕ) {number : ℕ} {image′ answer′ : List ℕ}
-    → Left image (callIn call) answer number image′ answer′ → number ≡ recordNumber image call answer → Stands k start image c
-    → Stands k start image′ (onward k image′ (replyOf number answer′) c)
-next-stands k call answer l e (done o paid) = rw o (done refl paid)
-next-stands k call answer (refused n) e (going o six same paid) = rw (o, eq-eqb _ 6 six) (going refl six same (omega (arith, paid)))
-next-stands k {start} {image} {c} call answer accepted e (going o six same paid) =
+next-reached : (k : ℕ) {start image : List ℕ} {c : Followed} (call answer : List ℕ) {number : ℕ} {image′ answer′ : List ℕ}
+    → Left image (callIn call) answer number image′ answer′ → number ≡ recordNumber image call answer → Reached k start image c
+    → Reached k start image′ (afterCall k image′ (replyOf number answer′) c)
+next-reached k call answer l e (finished o paid) = rw o (finished refl paid)
+next-reached k call answer (refused n) e (unfinished o six same paid) = rw (o, eq-eqb _ 6 six) (unfinished refl six same (omega (arith, paid)))
+next-reached k {start} {image} {c} call answer accepted e (unfinished o six same paid) =
     let Z : Zero image (callIn call) = zero-for image call answer e in
     let d : Done = effect (decode image) (callIn call) in
-    subst (λ (es : List Entry). Stands k start (encode (d .zone)) (onward k (encode (d .zone)) (acceptedWith es) c)) (sym (read-back image (callIn call) Z answer))
-    (turn-stands k start image c (d .entries) (encode (d .zone)) o same paid (turn-on image (callIn call) Z k six))
+    subst (λ (es : List Entry). Reached k start (encode (d .zone)) (afterCall k (encode (d .zone)) (acceptedWith es) c)) (sym (read-back image (callIn call) Z answer))
+    (accepted-reached k start image c (d .entries) (encode (d .zone)) o same paid (becomes-on image (callIn call) Z k six))
 
-stands : (k : ℕ) {start : List ℕ} {list : List Exchange} {image : List ℕ} (made : MadeFrom start list image) → lotIn start k .state ≡ 6
-    → Stands k start image (follow k made)
+reached : (k : ℕ) {start : List ℕ} {list : List Exchange} {image : List ℕ} (made : MadeFrom start list image) → lotIn start k .state ≡ 6
+    → Reached k start image (follow k made)
 unfolding follow
-stands k noCalls s = going refl s refl (omega arith)
-stands k (next {list} {image} m call answer number image′ answer′ R) s =
+reached k noCalls s = unfinished refl s refl (omega arith)
+reached k (next {list} {image} m call answer number image′ answer′ R) s =
     let C = returned-case image call answer number image′ answer′ R in
-    next-stands k call answer (C .left) (C .is) (stands k m s)
+    next-reached k call answer (C .left) (C .is) (reached k m s)
 
 -- lot k of a valid image in state 6
 part-paid-in : (image : List ℕ) (k : ℕ) → validImage image ≡ true → lotIn image k .state ≡ 6 → PartPaid (lotIn image k)
-part-paid-in image k ok s = part-paid (lotIn image k) (valid-at (decode image) (good image ok) k) s
+part-paid-in image k ok s = part-paid (lotIn image k) (valid-at (decode image) (good-image image ok) k) s
 
 pub parts-by-sum : PartsBySum
-parts-by-sum start list image made ok k s = go (follow k made) (stands k made s)
+parts-by-sum start list image made ok k s = go (follow k made) (reached k made s)
   where
-    go : (c : Course) → Stands k start image c → lotIn start k .paid .0 + c .parts
+    go : (c : Followed) → Reached k start image c → lotIn start k .paid .0 + c .parts
         ≡ paidSoFar (full (lotIn start k)) (fen (cond (c .over) (full (lotIn start k) .0) (lotIn image k .confirmed .0))) .0
-    go c (going o six same paid) =
+    go c (unfinished o six same paid) =
         rw o (paid ∙ part-paid-in image k (stays-valid start list image ok made) six .invoices .paid ∙ ap (λ (f : Fen). paidSoFar f (lotIn image k .confirmed) .0) same)
-    go c (done o paid) = rw o (paid ∙ sym (so-far-full (full (lotIn start k)) (omega (arith, part-paid-in start k ok s .full-in .low))))
+    go c (finished o paid) = rw o (paid ∙ sym (so-far-full (full (lotIn start k)) (omega (arith, part-paid-in start k ok s .full-in .low))))
 
 pub cut-alike : CutAlike
 cut-alike start ok k s list₁ image₁ made₁ list₂ image₂ made₂ e =

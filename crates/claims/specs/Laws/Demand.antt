@@ -14,11 +14,13 @@ use Rattle.rules.specs.declared.Call.{Call}
 use Rattle.rules.specs.declared.Entry.{Entry}
 use Rattle.rules.specs.Effects.{effect}
 use Rattle.rules.specs.Events.{Done}
+use Rattle.rules.specs.Laws.Good.{Good}
 use Rattle.rules.specs.Steps.{numberOn}
 use Rattle.image.specs.Image.{validImage, decode, encode}
 use Rattle.image.specs.Laws.RoundTrip.{decode-encode, valid-encode, valid-decode, fresh-valid, fresh-sized, decode-sized}
 use Rattle.answers.specs.Buffers.{callLength, answerLength, callIn, entriesIn, acceptedAnswer}
 use Rattle.answers.specs.Laws.ReadBack.{Numbered, entries-back}
+use Rattle.lots.specs.Laws.Visits.{good-decode}
 use Rattle.crz.specs.Laws.Returned.{Left, refused, accepted, returned-case}
 use Rattle.crz.specs.Returned.{afterBufferNumbers, callNumber, recordNumber, Returned}
 use Rattle.claims.specs.Demand.{Exchange, MadeFrom, noCalls, next, fed, KeepsImage, ImageKept, StaysValid, FreshIsValid, Demand3}
@@ -63,6 +65,9 @@ zero-for image call answer h = go (eqb (length call) callLength) h
     go false h = absurd (let t = behind-0 image answer 3 h .1 in omega arith)
 
 -- ── One call ───────────────────────────────────────────────────────────────────────────────────
+
+pub good-image : (image : List ℕ) → validImage image ≡ true → Good (decode image)
+good-image image ok = good-decode image (valid-decode image ok)
 
 module _ (image : List ℕ) (c : Call) (ok : Zero image c) where
   abbrev done : Done

@@ -39,13 +39,12 @@ use Rattle.rules.specs.Steps.{numberOn}
 use Rattle.rules.specs.Tables.{among}
 use Rattle.rules.specs.View.{viewOf, receiptOfNumber, recordOfReceipt}
 use Rattle.image.specs.Image.{decode, encode}
-use Rattle.image.specs.Laws.RoundTrip.{valid-decode, decode-encode, fresh-sized}
+use Rattle.image.specs.Laws.RoundTrip.{decode-encode, fresh-sized}
 use Rattle.answers.specs.Buffers.{callIn}
-use Rattle.lots.specs.Laws.Visits.{good-decode}
 use Rattle.crz.specs.Laws.Returned.{Left, refused, accepted, returned-case}
 use Rattle.crz.specs.Returned.{recordNumber}
 use Rattle.claims.specs.Demand.{Exchange, noCalls, next, fed}
-use Rattle.claims.specs.Laws.Demand.{Zero, zero-for, new-zone, accepted-call}
+use Rattle.claims.specs.Laws.Demand.{good-image, Zero, zero-for, new-zone, accepted-call}
 use Rattle.claims.specs.Laws.InStep.{nth-replicate}
 use Rattle.claims.specs.History.{acceptedWith}
 use Rattle.claims.specs.Premiums.{receiptIn, Graded, PremiumGiven, PremiumStays, premiumBy, premiumAfter, PremiumsKnown}
@@ -263,7 +262,7 @@ in-graded S = record { registered = S .registered; premium = ap (λ (x : ℤ). r
 -- an accepted call on an image
 module _ (image : List ℕ) (c : Call) (Z : Zero image c) where
   good : Good (decode image)
-  good = good-decode image (valid-decode image (Z .valid))
+  good = good-image image (Z .valid)
 
   given : c .kind ≡ 3 → Graded (encode (effect (decode image) c .zone)) (c .receipt) (c .basis)
   given k = graded-in (new-zone image c Z) (register-graded (decode image) c good k (Z .number))

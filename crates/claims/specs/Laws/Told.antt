@@ -10,11 +10,10 @@ use native.Mathlib.Omega.{arith}
 use borrow.Author.Tests.{eqb-true, eq-eqb, ne-eqb, not-true, not-false}
 use lib.Dec.{eqb, leb}
 use Rattle.units.specs.declared.Fen.{Fen}
-use Rattle.units.specs.Payments.{fen, firstPayment, paidSoFar}
+use Rattle.units.specs.Payments.{firstPayment, paidSoFar}
 use Rattle.units.specs.Laws.Bounds.{first-le, so-far-none}
 use Rattle.units.specs.Ranges.{accountCount}
 use Rattle.zone.specs.declared.Bid.{Bid}
-use Rattle.zone.specs.declared.Invoices.{Invoices}
 use Rattle.zone.specs.declared.Lot.the-variants.{Idle, FirstPaid}
 use Rattle.zone.specs.declared.Receipt.{Receipt}
 use Rattle.zone.specs.declared.Record.{Record}
@@ -33,7 +32,7 @@ use Rattle.rules.specs.Laws.Chain.{On, none, event, chosen, only, on-event, Vis
 use Rattle.rules.specs.Laws.Kinds.{withKind, ByKind, by-kind}
 use Rattle.rules.specs.Laws.Links.{tested, visit-kind}
 use Rattle.rules.specs.Laws.Passed.{in-state, ranges}
-use Rattle.rules.specs.Laws.Receipts.{PartPaid, part-paid, partOf, buyer-in}
+use Rattle.rules.specs.Laws.Receipts.{PartPaid, part-paid, partOf, confirmedInvoices, buyer-in}
 use Rattle.rules.specs.Laws.Tables.{among-one}
 use Rattle.rules.specs.Tables.{among}
 use Rattle.rules.specs.View.{viewOf, recordOfReceipt}
@@ -189,14 +188,11 @@ module _ (c : Call) (v : View) (p : Past) (n : ℕ) (f : Record) (K : Known f p)
       P : PartPaid f
       P = part-paid f ok e
 
-      going : Invoices
-      going = record { pending = fen 0; confirmed = fen (f .confirmed .0 + f .pending .0); paid = fen (f .paid .0 + partOf f .0) }
-
       rest : {Q : Past} → Q .registrant ≡ p .registrant → Q .buyer ≡ p .buyer → Q .full ≡ p .full → Q .since ≡ p .since + partOf f .0 → Rest (f .owner) Q
       rest a b d s = paid-rest (partOf f .0) a b d s (omega (arith, L .full, L .since, P .first, P .next, P .invoices .paid))
 
       go : (b : Bool) → eqb (f .confirmed .0 + f .pending .0) (full f .0) ≡ b →
-          On (Told c p) (eventOf n f (cond b Idle (FirstPaid (tradeOf f) going)) 11 (partOf f .0))
+          On (Told c p) (eventOf n f (cond b Idle (FirstPaid (tradeOf f) (confirmedInvoices f))) 11 (partOf f .0))
       go true q =
           let paid = P .last (eqb-true _ _ q) in
           let none-left : p .full - (p .since + partOf f .0) ≡ 0 = omega (arith, L .full, L .since, paid, P .first, P .invoices .paid) in

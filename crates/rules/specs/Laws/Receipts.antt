@@ -11,6 +11,7 @@ use Rattle.units.specs.declared.Fen.{Fen}
 use Rattle.units.specs.Laws.Bounds.{mostFull, first-rest, so-far-le-rest, so-far-full, part-brings}
 use Rattle.units.specs.Payments.{fen, firstPayment, paidSoFar, partPayment, perReceipt}
 use Rattle.units.specs.Ranges.{within, accountCount}
+use Rattle.zone.specs.declared.Invoices.{Invoices}
 use Rattle.zone.specs.declared.Record.{Record}
 use Rattle.zone.specs.Held.{full, rest, held, heldFrom}
 use Rattle.zone.specs.Laws.Facts.{Owned, InvoicesIn, Known, known, owner-some, bounds}
@@ -114,6 +115,10 @@ module _ (f : Record) where
 -- what a confirmation pays
 abbrev pub partOf : Record → Fen
 partOf f = partPayment (full f) (f .confirmed) (f .paid) (f .pending)
+
+-- the invoices of a lot that goes on after it
+abbrev pub confirmedInvoices : Record → Invoices
+confirmedInvoices f = record { pending = fen 0; confirmed = fen (f .confirmed .0 + f .pending .0); paid = fen (f .paid .0 + partOf f .0) }
 
 pub record PartPaid (f : Record) : Type 0 where
   pub full-in : InRange 100 mostFull (full f .0)

@@ -8,7 +8,7 @@ use native.Mathlib.Omega.{arith}
 use borrow.Author.Tests.{ltb-false, leb-true, eqb-false}
 use lib.Dec.{eqb, leb}
 use Rattle.units.specs.Laws.Bounds.{mostFull, first-rest, so-far-none, penalty-at-most}
-use Rattle.units.specs.Payments.{fen, penaltyPassed, deposit, perReceipt}
+use Rattle.units.specs.Payments.{penaltyPassed, deposit, perReceipt}
 use Rattle.units.specs.Ranges.{lastDay}
 use Rattle.zone.specs.declared.Invoices.{Invoices}
 use Rattle.zone.specs.declared.Lot.{Lot}
@@ -31,7 +31,7 @@ use Rattle.rules.specs.Laws.Fit.{Fit, quiet, holding, kept, ending, payi
 use Rattle.rules.specs.Laws.Kinds.{withKind}
 use Rattle.rules.specs.Laws.Offers.{FitsAt, Tested}
 use Rattle.rules.specs.Laws.Passed.{in-state}
-use Rattle.rules.specs.Laws.Receipts.{Parties, parties, PartPaid, part-paid, partOf, seller-in, buyer-in, differ-in, trade-in, full-in, owned-in, sellers, buyers, held-deposit, held-full, held-own}
+use Rattle.rules.specs.Laws.Receipts.{Parties, parties, PartPaid, part-paid, partOf, confirmedInvoices, seller-in, buyer-in, differ-in, trade-in, full-in, owned-in, sellers, buyers, held-deposit, held-full, held-own}
 use Rattle.rules.specs.Laws.Tables.{among-one}
 use Rattle.rules.specs.Numbers.{aboveInvoice}
 use Rattle.rules.specs.Tables.{among}
@@ -43,9 +43,7 @@ closeSettled n f = Event (entryOf n 8 (f .seller) (f .buyer) (full f .0)) (owned
 
 -- what becomes of a lot whose invoice is confirmed below full
 abbrev goingOn : Record → Lot
-goingOn f =
-    FirstPaid (tradeOf f)
-    (record { pending = fen 0; confirmed = fen (f .confirmed .0 + f .pending .0); paid = fen (f .paid .0 + partOf f .0) })
+goingOn f = FirstPaid (tradeOf f) (confirmedInvoices f)
 
 module _ (z : Zone) (day : InRange 1 lastDay (z .day)) (c : Call) (n : ℕ) (f : Record) (ok : recordValid f ≡ true) where
   -- ── Lodging and the morning close ────────────────────────────────────────────────────────────

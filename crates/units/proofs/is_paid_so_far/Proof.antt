@@ -6,7 +6,7 @@ use native.Mathlib.Nat.{add-mul, mul-le-mul, div-eq-of-lt-le, div-mul-le-self, l
 use native.Mathlib.Omega.{arith}
 use borrow.Author.Tests.{leb-true, leb-false, ltb-true, ltb-false, eqb-true, eqb-false, ne-eqb}
 use lib.Dec.{leb, ltb, eqb}
-use Rattle.units.specs.Laws.Bounds.{first-rest, so-far-le-rest}
+use Rattle.units.specs.Laws.Bounds.{rest-le, so-far-le-rest}
 use Rattle.units.specs.Payments.{restPayment, paidSoFar}
 use borrow.Author.Needs.{needs}
 use Rattle.units.proofs.is_paid_so_far.Statement.{statement}
@@ -35,7 +35,7 @@ by-products x y k some = go (leb (x * k) y) (ltb y (x * k + k)) (eqb x (y / k)) 
 
 -- the rest is part of full
 rest-small : (c : tie.After-rest-payment) → c .rest-payment .result .0 ≤ c .before .args .full .0
-rest-small c = rw (c .rest-payment .ensures) (omega (arith, first-rest (c .before .args .full)))
+rest-small c = rw (c .rest-payment .ensures) (rest-le (c .before .args .full))
 
 rest-payment-requires : tie.Need-rest-payment-requires
 rest-payment-requires c κs = search needs
@@ -46,26 +46,25 @@ returns c =
     let more : restPayment (a .full) .0 < a .paid .0 = rw (c .before .rest-payment .ensures) at (c .if1 .taken) in
     sym (ne-eqb (a .paid .0) (paidSoFar (a .full) (a .confirmed) .0) (λ e. omega (arith, so-far-le-rest (a .full) (a .confirmed) (omega (arith, c .before .before .pre)))))
 
-mul-share : tie.Need-mul-share
-mul-share c =
+mul-product : tie.Need-mul-product
+mul-product c =
     let a = c .before .before .args in
     let rest : c .before .rest-payment .result .0 ≤ 4294967295 = omega (arith, rest-small (c .before)) in
     let sum : a .confirmed .0 ≤ 4294967295 = omega (arith, c .before .before .pre) in
     omega (arith, mul-le-mul rest sum)
 
 -- what was paid is below 2 ^ 32 too
-paid-small : (c : tie.Else1) → c .before .before .args .paid .0 ≤ 4294967295
-paid-small c = omega (arith, rest-small (c .before), c .if1 .left, c .before .before .pre)
-
-mul-least : tie.Need-mul-least
-mul-least c =
+lower-small : (c : tie.Else1) → c .before .before .args .paid .0 * c .before .before .args .full .0 ≤ 4294967295 * 4294967295
+lower-small c =
+    let paid : c .before .before .args .paid .0 ≤ 4294967295 = omega (arith, rest-small (c .before), c .if1 .left, c .before .before .pre) in
     let all : c .before .before .args .full .0 ≤ 4294967295 = omega (arith, c .before .before .pre) in
-    omega (arith, mul-le-mul (paid-small c) all)
+    mul-le-mul paid all
+
+mul-lower : tie.Need-mul-lower
+mul-lower c = omega (arith, lower-small c)
 
 add-result : tie.Need-add-result
-add-result c =
-    let all : c .before .before .args .full .0 ≤ 4294967295 = omega (arith, c .before .before .pre) in
-    omega (arith, mul-le-mul (paid-small c) all)
+add-result c = omega (arith, lower-small c, c .before .before .pre)
 
 returns-2 : tie.Need-returns-2
 unfolding paidSoFar
@@ -75,4 +74,4 @@ returns-2 c =
 
 pub is-paid-so-far-spec : {M : Type 1} → statement M
 is-paid-so-far-spec =
-    tie.close (tie.spec rest-payment-requires returns mul-share mul-least add-result returns-2)
+    tie.close (tie.spec rest-payment-requires returns mul-product mul-lower add-result returns-2)

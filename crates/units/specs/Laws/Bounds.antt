@@ -87,6 +87,10 @@ pub first-rest : (full : Fen) → firstPayment full .0 + restPayment full .0 ≡
 unfolding restPayment
 first-rest full = omega (arith, first-le full)
 
+-- the rest is part of full
+pub rest-le : (full : Fen) → restPayment full .0 ≤ full .0
+rest-le full = omega (arith, first-rest full)
+
 -- ── the parts of the rest ──────────────────────────────────────────────────────────────────────
 
 -- nothing confirmed, nothing paid

@@ -13,7 +13,7 @@ use lib.Dec.{eqb}
 use lib.ListN.{length, getD, set}
 use Rattle.units.specs.declared.Fen.{Fen}
 use Rattle.units.specs.Payments.{fen, restPayment, paidSoFar, deposit}
-use Rattle.units.specs.Laws.Bounds.{full-at-most, full-at-least, first-rest, so-far-le-rest, mostFull}
+use Rattle.units.specs.Laws.Bounds.{full-at-most, full-at-least, rest-le, so-far-le-rest, mostFull}
 use Rattle.units.specs.Ranges.{within, mostBasis, mostPremium}
 use Rattle.zone.specs.declared.Account.{Account}
 use Rattle.zone.specs.declared.Invoices.{Invoices}
@@ -39,10 +39,6 @@ unfolding full
 full-ge r h s =
     let F = known r h (owner-some r h (omega arith)) .fields in
     full-at-least (r .price) (r .basis) (r .premium) (r .weight) (F .bid .pays (in-range s)) (F .owned .weight .low)
-
--- the rest is part of full
-pub rest-le : (f : Fen) → restPayment f .0 ≤ f .0
-rest-le f = omega (arith, first-rest f)
 
 -- what the invoices have paid is part of the rest
 pub paid-le-rest : (f : Fen) (i : Invoices) → InvoicesIn f i → i .paid .0 ≤ restPayment f .0
