@@ -305,9 +305,8 @@ static void count_put_paid(const struct made *made, uint32_t lot)
 {
     struct crz_receipt_fields now = crz_get_receipt(made->before, lot), then = crz_get_receipt(made->sound, lot);
     int bad = made->number == CRZ_NUMBER_BAD_IMAGE, some = now.confirmed != 0;
-    uint64_t full = crz_full_payment(&now), must = full == 0 ? 0 : crz_rest_payment(&now) * now.confirmed / full;
-    uint32_t beside = now.paid - (uint32_t)must;
-    if (now.state != CRZ_STATE_FIRST_PAID || then.state != now.state || full != crz_full_payment(&then)
+    uint32_t beside = now.paid - (uint32_t)crz_paid_of_rest(&now, now.confirmed);
+    if (now.state != CRZ_STATE_FIRST_PAID || then.state != now.state || crz_full_payment(&now) != crz_full_payment(&then)
         || !is_booked(made, now.buyer, (uint64_t)now.paid - then.paid))
         return;
     put_paid[some][bad][MUST_BE] += beside == 0 && !bad;
