@@ -1,6 +1,6 @@
 #!/usr/bin/env bash
 # The host program's words: commands, calls, refusals, scripts, what a desk asks, and objects for programs.
-# Usage: tests/host.sh PROGRAM
+# Usage: tests/host.sh PROGRAM     with the proved archive in target/staticlib
 # shellcheck source=tests/host_common.sh
 . "$(dirname "$0")/host_common.sh"
 
@@ -646,11 +646,7 @@ fi
 
 # ── The shared object ───────────────────────────────────────────────────────────────────────────────
 # Its name for the linker has the version's first number: programs of another one do not take it.
-if [ -e "$here/target/staticlib/libcrz.a" ]; then
-    holds "a shared object is made" "$here/tools/shared" "$PWD/shared"
-    holds "its name" grep -qF "[libcrz.so.${version%%.*}]" <(readelf -d shared/libcrz.so)
-    holds "its files" test "$(echo shared/*)" = "shared/libcrz.so shared/libcrz.so.${version%%.*}"
-else
-    echo "no archive in target/staticlib: the shared object is not tried"
-fi
+holds "a shared object is made from target/staticlib/libcrz.a" "$here/tools/shared" "$PWD/shared"
+holds "its name" grep -qF "[libcrz.so.${version%%.*}]" <(readelf -d shared/libcrz.so)
+holds "its files" test "$(echo shared/*)" = "shared/libcrz.so shared/libcrz.so.${version%%.*}"
 finish
