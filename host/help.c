@@ -59,7 +59,8 @@ static const struct help helps[] = {
         "\n"
         "What was paid in, taken out, received and passed on, what is held for which lot, and how it adds up.\n"
         "Payments of a lot are shown with the premium of its receipt, what is held of a rest with the part that the\n"
-        "next confirmation pays.\n"},
+        "next confirmation pays and what is left to invoice. A seller finds what it may still invoice for which lot,\n"
+        "and what the confirmation of a pending invoice will pay.\n"},
     {"due", "crz due FILE  [--json] [--wait SECONDS]\n"
             "\n"
             "The lots that the next morning close works, with their full payment, who must lodge and what each side\n"

@@ -25,8 +25,8 @@ static void add(uint8_t *sum, uint64_t fen)
     crz_put_u64(sum, crz_get_u64(sum) + fen);
 }
 
-/* What is not paid stays frozen, and the other way round. */
-static void follow(uint8_t *image, const struct crz_receipt_fields *r, uint32_t paid)
+/* Changes frozen money and total with paid: what is not paid is still held from the buyer. */
+static void move_held(uint8_t *image, const struct crz_receipt_fields *r, uint32_t paid)
 {
     if (!crz_is_place(r->buyer, CRZ_ACCOUNT_COUNT))
         return;
@@ -43,7 +43,7 @@ static int valid_by_rule(const uint8_t *image, int money_follows)
         struct crz_receipt_fields r = crz_get_receipt(image, n);
         crz_put_u32(copy + crz_receipt_offset(n) + CRZ_RECEIPT_PAID, paid_by_rule(&r));
         if (money_follows)
-            follow(copy, &r, paid_by_rule(&r));
+            move_held(copy, &r, paid_by_rule(&r));
     }
     return image_valid(copy);
 }
@@ -57,15 +57,22 @@ static void name_lot(const char *path, uint32_t lot, const struct crz_receipt_fi
         grouped(r->confirmed).text, grouped(crz_full_payment(r)).text);
 }
 
-/* Names every lot with another paid; whether one of them has more than the rule gives, as no version pays. */
-static int name_lots(const char *path, const uint8_t *image)
+/* Every lot with another paid. */
+static void name_lots(const char *path, const uint8_t *image)
+{
+    for (uint32_t n = 1; n <= CRZ_RECEIPT_COUNT; n++) {
+        struct crz_receipt_fields r = crz_get_receipt(image, n);
+        if (r.paid != paid_by_rule(&r))
+            name_lot(path, n, &r);
+    }
+}
+
+/* Whether a lot has more as paid than the rule gives, as no version pays. */
+static int any_above(const uint8_t *image)
 {
     int above = 0;
     for (uint32_t n = 1; n <= CRZ_RECEIPT_COUNT; n++) {
         struct crz_receipt_fields r = crz_get_receipt(image, n);
-        if (r.paid == paid_by_rule(&r))
-            continue;
-        name_lot(path, n, &r);
         above |= r.paid > paid_by_rule(&r);
     }
     return above;
@@ -74,7 +81,7 @@ static int name_lots(const char *path, const uint8_t *image)
 /* ── Messages ──────────────────────────────────────────────────────────────────────────────────── */
 
 /* Paying what is missing here would move money that no call moved; the version that paid so far can go on. */
-static int unfinished(const char *path, int older)
+static int report_unfinished(const char *path, int older)
 {
     return report(path,
         "these trades were paid in part by the rule of versions before 3.0.0; no zone was made; finish each of them "
@@ -85,8 +92,9 @@ static int unfinished(const char *path, int older)
 int image_report(const char *path, const uint8_t image[CRZ_IMAGE_LENGTH], int older)
 {
     int balanced = valid_by_rule(image, 1);
-    int above = balanced || valid_by_rule(image, 0) ? name_lots(path, image) : 0;
-    if (balanced && !above)
-        return unfinished(path, older);
+    if (balanced || valid_by_rule(image, 0))
+        name_lots(path, image);
+    if (balanced && !any_above(image))
+        return report_unfinished(path, older);
     return report(path, "is no valid image of a zone; no zone was made");
 }

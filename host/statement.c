@@ -125,36 +125,82 @@ static int add_line(void *context, const struct line *line)
     return 0;
 }
 
+/* ── Lots that hold its money, and lots that it may invoice ────────────────────────────────────── */
+
+static void print_invoices(const struct crz_receipt_fields *r)
+{
+    if (r->pending != 0)
+        printf(", of which the next confirmation pays %s fen", grouped(crz_next_part(r)).text);
+    else
+        printf(", no invoice is pending");
+    printf(", %s fen are left to invoice", grouped(crz_left_to_invoice(r)).text);
+}
+
 static void print_held(uint32_t lot, const struct crz_receipt_fields *r)
 {
     printf("  held for lot %u, %s, premium %s: %s fen", lot, state_words[r->state], grouped_signed(r->premium).text,
         grouped(crz_held_money(r)).text);
-    if (r->state == CRZ_STATE_FIRST_PAID && r->pending != 0)
-        printf(", of which the next confirmation pays %s fen", grouped(crz_next_part(r)).text);
-    else if (r->state == CRZ_STATE_FIRST_PAID)
-        printf(", no invoice is pending");
+    if (r->state == CRZ_STATE_FIRST_PAID)
+        print_invoices(r);
     putchar('\n');
 }
 
 static void json_held(uint32_t lot, const struct crz_receipt_fields *r)
 {
+    int first_paid = r->state == CRZ_STATE_FIRST_PAID;
     json_open("held");
     json_number("lot", lot);
     json_words("state", state_words[r->state]);
     json_signed("premium_yuan", r->premium);
     json_number("fen", crz_held_money(r));
-    json_if(r->state == CRZ_STATE_FIRST_PAID && r->pending != 0, "next_part_fen", crz_next_part(r));
+    json_if(first_paid, "left_to_invoice_fen", crz_left_to_invoice(r));
+    json_if(first_paid && r->pending != 0, "next_part_fen", crz_next_part(r));
     json_close();
 }
 
-static void show_all_held(const struct statement *s, const uint8_t *image)
+static void show_all_held(const struct statement *s)
 {
     for (uint32_t n = 1; n <= CRZ_RECEIPT_COUNT; n++) {
-        struct crz_receipt_fields r = crz_get_receipt(image, n);
+        struct crz_receipt_fields r = crz_get_receipt(s->image, n);
         if (r.buyer == s->account && crz_held_money(&r) != 0)
             (s->json ? json_held : print_held)(n, &r);
     }
 }
+
+static void print_to_invoice(uint32_t lot, const struct crz_receipt_fields *r)
+{
+    printf("  to invoice for lot %u, buyer %u, premium %s: %s fen", lot, r->buyer, grouped_signed(r->premium).text,
+        grouped(crz_left_to_invoice(r)).text);
+    if (r->pending != 0)
+        printf(", an invoice of %s fen is pending, its confirmation pays %s fen\n", grouped(r->pending).text,
+            grouped(crz_next_part(r)).text);
+    else
+        puts(", no invoice is pending");
+}
+
+static void json_to_invoice(uint32_t lot, const struct crz_receipt_fields *r)
+{
+    json_open("to_invoice");
+    json_number("lot", lot);
+    json_number("buyer", r->buyer);
+    json_signed("premium_yuan", r->premium);
+    json_number("left_to_invoice_fen", crz_left_to_invoice(r));
+    json_number("pending_fen", r->pending);
+    json_if(r->pending != 0, "next_part_fen", crz_next_part(r));
+    json_close();
+}
+
+/* It is the seller who waits for the rest; what invoices will bring is not its money yet and in none of the sums. */
+static void show_all_to_invoice(const struct statement *s)
+{
+    for (uint32_t n = 1; n <= CRZ_RECEIPT_COUNT; n++) {
+        struct crz_receipt_fields r = crz_get_receipt(s->image, n);
+        if (r.seller == s->account && r.state == CRZ_STATE_FIRST_PAID)
+            (s->json ? json_to_invoice : print_to_invoice)(n, &r);
+    }
+}
+
+/* ── The line that adds up ─────────────────────────────────────────────────────────────────────── */
 
 static void json_balance(const struct statement *s, const struct crz_account_fields *has)
 {
@@ -170,7 +216,6 @@ static void json_balance(const struct statement *s, const struct crz_account_fie
     json_close();
 }
 
-/* The line that adds up. */
 static void print_balance(const struct statement *s, const struct crz_account_fields *has)
 {
     printf("  ");
@@ -197,7 +242,8 @@ enum status print_statement(struct store *store, const struct newest *newest, ui
         print_head(&s, newest);
     if (store_walk(store, 0, newest->last.sequence, add_line, &s) != 0)
         return STATUS_NOTHING_DONE;
-    show_all_held(&s, newest->kept.image);
+    show_all_held(&s);
+    show_all_to_invoice(&s);
     if (json)
         json_balance(&s, &has);
     else

@@ -1,4 +1,7 @@
-/* What an account's money did, from the journal; what the next morning close works, from the image. */
+/*
+ * What an account's money did, from the journal, and what its lots hold and may still be invoiced; what the next
+ * morning close works, from the image.
+ */
 #ifndef STATEMENT_H
 #define STATEMENT_H
 

@@ -361,10 +361,23 @@ static inline uint64_t crz_rest_payment(const struct crz_receipt_fields *receipt
     return crz_full_payment(receipt) - crz_first_payment(receipt);
 }
 
+/* What the lot of a valid image holds from its buyer's money. */
+static inline uint64_t crz_held_money(const struct crz_receipt_fields *receipt)
+{
+    switch (receipt->state) {
+    case CRZ_STATE_BID_STANDS:
+    case CRZ_STATE_STRUCK:
+    case CRZ_STATE_LODGED: return CRZ_DEPOSIT;
+    case CRZ_STATE_SETTLED: return crz_full_payment(receipt);
+    case CRZ_STATE_FIRST_PAID: return crz_rest_payment(receipt) - receipt->paid;
+    default: return 0;
+    }
+}
+
 /*
- * The rest is paid by what has been confirmed, however it was cut into invoices. What is reckoned below is exact for a
- * receipt of a valid image in state CRZ_STATE_FIRST_PAID: its full payment is below 2^31, so that no product passes 64
- * bits. No difference goes below 0, whatever the receipt holds.
+ * The rest is paid by what has been confirmed, however it was cut into invoices. The next three are exact for a receipt
+ * of a valid image in state CRZ_STATE_FIRST_PAID: its full payment is below 2^31, so that no product passes 64 bits.
+ * None of their differences goes below 0, whatever the receipt holds.
  */
 
 /*
@@ -392,19 +405,6 @@ static inline uint64_t crz_next_part(const struct crz_receipt_fields *receipt)
 {
     uint64_t paid = crz_paid_of_rest(receipt, (uint64_t)receipt->confirmed + receipt->pending);
     return receipt->pending != 0 && paid > receipt->paid ? paid - receipt->paid : 0;
-}
-
-/* What the lot holds from its buyer's money. */
-static inline uint64_t crz_held_money(const struct crz_receipt_fields *receipt)
-{
-    switch (receipt->state) {
-    case CRZ_STATE_BID_STANDS:
-    case CRZ_STATE_STRUCK:
-    case CRZ_STATE_LODGED: return CRZ_DEPOSIT;
-    case CRZ_STATE_SETTLED: return crz_full_payment(receipt);
-    case CRZ_STATE_FIRST_PAID: return crz_rest_payment(receipt) - receipt->paid;
-    default: return 0;
-    }
 }
 
 #endif

@@ -280,6 +280,8 @@ static struct {
     uint64_t confirmed, paid;
 } sums[MOST_SUMS];
 static size_t sum_count;
+
+/* how often a way came to a sum of another one; the full payment, where all of them meet, is not counted */
 static unsigned long meetings;
 
 static void meet_others(void)
@@ -289,7 +291,7 @@ static void meet_others(void)
         i++;
     if (i < sum_count) {
         expect(sums[i].paid == trade.paid, "another way of cutting has paid the same");
-        meetings++;
+        meetings += trade.confirmed < trade.full;
         return;
     }
     if (sum_count < MOST_SUMS) {
@@ -366,7 +368,7 @@ static void cut_all(cut *size, const struct terms *terms, unsigned between)
 }
 
 /* every way from one start, each by itself and with other calls between */
-static void try_cuts(const struct terms *terms)
+static void try_cuts(const struct terms *terms, enum beginning beginning)
 {
     unsigned i;
     sum_count = 0;
@@ -375,7 +377,10 @@ static void try_cuts(const struct terms *terms)
     for (i = 0; i < 2 * CUTS; i++)
         if (trade.full <= cuts[i / 2].most_full)
             cut_all(cuts[i / 2].size, terms, i % 2 == 0 ? 0 : i / 2 + 1);
-    expect(meetings > CUTS, "ways of cutting meet at common sums");
+    if (beginning == ALL_BUT_A_FEN)
+        expect(meetings == 0, "a last fen cannot be cut");
+    else /* an invoice that is pending at the start brings all ways to one sum, which is not enough */
+        expect(meetings > 2 * CUTS, "ways of cutting meet at common sums");
 }
 
 /* 33, 33 and 34 pay 6, 7 and 7 */
@@ -481,9 +486,10 @@ int main(void)
     try_example();
     for (i = 0; i < BEGINNINGS * (sizeof all_terms / sizeof all_terms[0]); i++) {
         const struct terms *terms = &all_terms[i / BEGINNINGS];
-        if (!begin(terms, (enum beginning)(i % BEGINNINGS)))
+        enum beginning beginning = (enum beginning)(i % BEGINNINGS);
+        if (!begin(terms, beginning))
             continue;
-        try_cuts(terms);
+        try_cuts(terms, beginning);
         read_trade();
         try_images();
     }

@@ -17,16 +17,18 @@ as_library = ["-Dcrz_call=plain_call", "-Dcrz_fresh=plain_fresh"]
 programs = {
     "longrun": (sorted(glob.glob("tests/longrun*.c")) + ["tests/lent.c"], []),
     "buffers": (["tests/buffers.c", "tests/lent.c"], as_library),
+    "cuts": (["tests/cuts.c"], as_library),
 }
 
 
 def faults_in(text):
-    """(words, program, old, new) of each fault; the first part of the text is a remark."""
+    """(words, program, old, new) of each fault and program that must see it; the first part of the text is a remark."""
     for block in text.strip().split("\n\n")[1:]:
-        found = re.fullmatch(r"# (.*)\n(?:by: (\w+)\n)?old: (.*)\nnew: (.*)", block)
+        found = re.fullmatch(r"# (.*)\n(?:by: (.*)\n)?old: (.*)\nnew: (.*)", block)
         if not found:
             sys.exit("not a fault:\n" + block)
-        yield found.group(1), found.group(2) or "longrun", found.group(3), found.group(4)
+        for program in (found.group(2) or "longrun").split():
+            yield found.group(1), program, found.group(3), found.group(4)
 
 
 def objects_of(program):
@@ -50,9 +52,12 @@ def run(program, objects, ledger):
 
 
 def seen(program, status, said):
-    """By a difference in the program's own words, or by a wall."""
+    """By a difference in the program's own words, by one of its tests, or by a wall."""
     if program == "buffers":
         return "seen at a wall" if status == -signal.SIGSEGV else None
+    if program == "cuts":
+        test = re.search(r"^failed: (.*)", said, re.M)
+        return "seen by cuts: " + test.group(1) if test and status == 1 else None
     call = re.search(r"^seed \w+, call (\d+): library", said, re.M)
     return "seen at call " + call.group(1) if call and status == 1 and said.endswith("0 passed, 1 failed\n") else None
 

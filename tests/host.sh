@@ -1,6 +1,6 @@
 #!/usr/bin/env bash
 # The host program's words: commands, calls, refusals, scripts, what a desk asks, and objects for programs.
-# Usage: tests/host.sh PROGRAM
+# Usage: tests/host.sh PROGRAM     with the proved archive in target/staticlib
 # shellcheck source=tests/host_common.sh
 . "$(dirname "$0")/host_common.sh"
 
@@ -23,6 +23,8 @@ ends 0 "register account N receipt N kilograms N [premium N]" help register
 ends 0 "premium     -5,000 to 5,000; 0 where it is left out" help register
 ends 0 "limit-bid account N receipt N yuan N" help limit-bid
 ends 0 "yuan        5 to 200,000 in steps of 5" help limit-bid
+ends 0 "the seller: sends the buyer an invoice of no more than the full payment has left" help invoice
+ends 0 "the buyer: confirms the pending invoice; pays what is owed of the rest by then and not paid yet" help confirm
 ends 2 "'limt-bid' is no command and no kind of call; did you mean 'limit-bid'?" help limt-bid
 ends 0 "limit-bid account N receipt N yuan N" help call
 ends 0 "any account but the seller" help call
@@ -184,6 +186,7 @@ printf 'lodge account 1 receipt 1\nmorning-close\n' >script
 ends 0 "lot 1: settled, buyer 4, seller 1, 500 fen" play premium script
 ends 0 "lot 1: settled, owner 4, 1,000 kilograms, premium -5 yuan per tonne, seller 1, buyer 4" show premium
 ends 0 "held for lot 1, settled, premium -5: 500 fen" statement premium 4
+cp premium settled
 cat >script <<'END'
 first-payment account 1 receipt 1
 invoice account 1 receipt 1 fen 250
@@ -219,14 +222,17 @@ ends 0 "lot 3: first paid, buyer 2, seller 1, 80 fen" play parts script
 "$crz" export parts uncut.image >/dev/null
 ends 0 "of the rest paid 0 fen, invoices confirmed 0 fen, pending 0 fen, left to invoice 100 fen" show parts
 ends 0 "      no invoice is pending, there is nothing to confirm" show parts
-ends 0 "held for lot 3, first paid, premium 0: 20 fen, no invoice is pending" statement parts 2
+ends 0 "held for lot 3, first paid, premium 0: 20 fen, no invoice is pending, 100 fen are left to invoice" statement parts 2
+ends 0 "  to invoice for lot 3, buyer 2, premium 0: 100 fen, no invoice is pending" statement parts 1
 # part INVOICE FEN LEFT: what is said of an invoice before its confirmation, and what that then pays
 part() {
     ends 0 "        its confirmation pays $2 fen of the rest, $3 fen are left to invoice" \
         call parts invoice account 1 receipt 3 fen "$1"
     ends 0 "      the next confirmation pays $2 fen" show parts
     ends 0 "pending $1 fen, left to invoice $3 fen" show parts
-    ends 0 " fen, of which the next confirmation pays $2 fen" statement parts 2
+    ends 0 " fen, of which the next confirmation pays $2 fen, $3 fen are left to invoice" statement parts 2
+    ends 0 "to invoice for lot 3, buyer 2, premium 0: $3 fen, an invoice of $1 fen is pending, its confirmation pays $2 fen" \
+        statement parts 1
     ends 1 "an invoice of $1 fen waits for its confirmation, which pays $2 fen; $3 fen are left to invoice" \
         call parts invoice account 1 receipt 3 fen 1
     ends 0 "lot 3: part paid, buyer 2, seller 1, $2 fen" call parts confirm account 2 receipt 3
@@ -240,6 +246,7 @@ ends 0 "of the rest paid 13 fen, invoices confirmed 66 fen, pending 0 fen, left 
 "$crz" export parts parts.image >/dev/null
 part 34 7 0
 ends 0 "lot 3: idle, owner 2" show parts
+holds "a lot that is over is not to be invoiced" test -z "$("$crz" statement parts 1 | grep 'to invoice')"
 ends 0 "pay-ins 5,000,000 + received 0 - take-outs 0 - passed on 100 fen" statement parts 2
 holds "the log knows no image of then" test -z "$("$crz" log parts | grep 'its confirmation')"
 ends 0 "history: the books" verify parts
@@ -266,6 +273,11 @@ cut_zone cut.guide 33
 ends 0 "its confirmation pays 7 fen of the rest, 34 fen are left to invoice" call cut.guide invoice account 1 receipt 3 fen 33
 "$crz" show cut.guide | tail -n 3 | while read -r line; do grep -F "          $line" "$here/docs/GUIDE.md"; done >guided
 holds "the guide has the lot between its invoices" test "$(wc -l <guided)" -eq 3
+for account in 1 2; do
+    "$crz" statement cut.guide "$account" | grep "to invoice" >line
+    holds "each side of a trade has one line about it" test "$(wc -l <line)" -eq 1
+    holds "the guide has: $(cat line)" grep -qF "    $(cat line)" "$here/docs/GUIDE.md"
+done
 holds "a part of 0 fen is listed" test "$(grep -c 'part paid, buyer 2, seller 1, 0 fen' cut.fen.said)" -eq 53
 holds "and so is one of 1 fen" test "$(grep -c 'part paid, buyer 2, seller 1, 1 fen' cut.fen.said)" -eq 13
 holds "each was told before" cmp -s <(sed -n 's/.*its confirmation pays \(.*\) of the rest.*/\1/p' cut.fen.said) \
@@ -412,16 +424,26 @@ objects 'assert [m["premium_yuan"] for m in kinds["movement"]] == [None, -5, -5,
 objects 'assert len(kinds["contract"]) == 8 and len(kinds["lot"]) == 4' show day
 objects 'assert all(lot["next_part_fen"] is None and lot["left_to_invoice_fen"] is None for lot in kinds["lot"])' show day
 objects 'lot = kinds["lot"][0]; assert lot["left_to_invoice_fen"] == 34 and lot["next_part_fen"] is None' show cut.one
-objects 'assert kinds["held"][0]["fen"] == 7 and kinds["held"][0]["next_part_fen"] is None' statement cut.one 2
+objects 'held = kinds["held"][0]; assert held["fen"] == 7 and held["left_to_invoice_fen"] == 34 and held["next_part_fen"] is None' \
+    statement cut.one 2
+objects 'assert kinds["to_invoice"] == [{"type": "to_invoice", "lot": 3, "buyer": 2, "premium_yuan": 0,
+    "left_to_invoice_fen": 34, "pending_fen": 0, "next_part_fen": None}] and "held" not in kinds' statement cut.one 1
 objects 'c = kinds["call"][0]; assert c["next_part_fen"] == 0 and c["left_to_invoice_fen"] == 33 and c["accepted"]' \
     call cut.one invoice account 1 receipt 3 fen 1
 objects 'lot = kinds["lot"][0]; assert lot["left_to_invoice_fen"] == 33 and lot["next_part_fen"] == 0' show cut.one
-objects 'assert kinds["held"][0]["fen"] == 7 and kinds["held"][0]["next_part_fen"] == 0' statement cut.one 2
+objects 'held = kinds["held"][0]; assert held["fen"] == 7 and held["left_to_invoice_fen"] == 33 and held["next_part_fen"] == 0' \
+    statement cut.one 2
+objects 'assert kinds["to_invoice"] == [{"type": "to_invoice", "lot": 3, "buyer": 2, "premium_yuan": 0,
+    "left_to_invoice_fen": 33, "pending_fen": 1, "next_part_fen": 0}]' statement cut.one 1
+objects 'assert "to_invoice" not in kinds' statement cut.one 2
+objects 'assert kinds["held"][0]["state"] == "settled" and kinds["held"][0]["left_to_invoice_fen"] is None' statement settled 4
+objects 'assert "to_invoice" not in kinds' statement settled 1
 objects 'c = kinds["call"][0]; assert not c["accepted"] and c["next_part_fen"] is None and c["left_to_invoice_fen"] is None' \
     call cut.one invoice account 1 receipt 3 fen 1
 objects 'assert kinds["call"][0]["next_part_fen"] is None and kinds["call"][0]["entries"][0]["fen"] == 0' \
     call cut.one confirm account 2 receipt 3
 objects 'assert all(c["next_part_fen"] is None and c["left_to_invoice_fen"] is None for c in kinds["call"])' log cut.one
+objects 'assert {bool(lot["pending_fen"]) for lot in kinds["lot"] if lot["state"] == "first paid"} == {True, False}' show desk.91
 objects 'b = kinds["balance"][0]; assert b["pay_ins_fen"] - b["passed_fen"] == b["free_fen"] == 36907390' statement day 11
 objects 'assert [m["out_fen"] for m in kinds["movement"]] == [None, 50474088, 6000000, 6618522]' statement day 11
 objects 'assert kinds["close"][0]["lots"] == 1 and kinds["due"][0]["penalty_fen"] == 5000000' due noon
@@ -624,11 +646,7 @@ fi
 
 # ── The shared object ───────────────────────────────────────────────────────────────────────────────
 # Its name for the linker has the version's first number: programs of another one do not take it.
-if [ -e "$here/target/staticlib/libcrz.a" ]; then
-    holds "a shared object is made" "$here/tools/shared" "$PWD/shared"
-    holds "its name" grep -qF "[libcrz.so.${version%%.*}]" <(readelf -d shared/libcrz.so)
-    holds "its files" test "$(echo shared/*)" = "shared/libcrz.so shared/libcrz.so.${version%%.*}"
-else
-    echo "no archive in target/staticlib: the shared object is not tried"
-fi
+holds "a shared object is made from target/staticlib/libcrz.a" "$here/tools/shared" "$PWD/shared"
+holds "its name" grep -qF "[libcrz.so.${version%%.*}]" <(readelf -d shared/libcrz.so)
+holds "its files" test "$(echo shared/*)" = "shared/libcrz.so shared/libcrz.so.${version%%.*}"
 finish

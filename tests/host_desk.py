@@ -504,16 +504,31 @@ def sums(movements):
     return [sum(m[column] or 0 for m in some) for some, column in ((own, 3), (own, 4), (other, 3), (other, 4))]
 
 
+def held_object(number, lot):
+    return {
+        "type": "held", "lot": number, "state": STATES[lot.state], "premium_yuan": lot.premium, "fen": lot.held(),
+        "left_to_invoice_fen": lot.left() if lot.state == FIRST_PAID else None, "next_part_fen": lot.next_part(),
+    }
+
+
+def to_invoice_object(number, lot):
+    return {
+        "type": "to_invoice", "lot": number, "buyer": lot.buyer, "premium_yuan": lot.premium,
+        "left_to_invoice_fen": lot.left(), "pending_fen": lot.pending, "next_part_fen": lot.next_part(),
+    }
+
+
 def compare_statement(check, program, zone, books, account):
     said = objects(program, "statement", zone, str(account))
     movements = books.movements.get(account, [])
     check.same("movements of account %d" % account, movements, [
         (o["what"], o["lot"], o["other_account"], o["in_fen"], o["out_fen"], o["premium_yuan"]) for o in said
         if o["type"] == "movement"])
-    held = [(n, lot.held(), lot.premium, lot.next_part()) for n, lot in sorted(books.lots.items())
-            if lot.buyer == account and lot.held() > 0]
-    check.same("held for account %d" % account, [
-        (o["lot"], o["fen"], o["premium_yuan"], o["next_part_fen"]) for o in said if o["type"] == "held"], held)
+    lots = sorted(books.lots.items())
+    check.same("held for account %d" % account, [o for o in said if o["type"] == "held"], [
+        held_object(n, lot) for n, lot in lots if lot.buyer == account and lot.held() > 0])
+    check.same("what account %d may invoice" % account, [o for o in said if o["type"] == "to_invoice"], [
+        to_invoice_object(n, lot) for n, lot in lots if lot.seller == account and lot.state == FIRST_PAID])
     line = said[-1]
     check.same("sums of account %d" % account, sums(movements), [
         line["pay_ins_fen"], line["take_outs_fen"], line["received_fen"], line["passed_fen"]])

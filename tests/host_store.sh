@@ -193,6 +193,7 @@ time.sleep(60)
 END
 # held_by LOCK: a program that holds the zone's lock and is stopped
 held_by() {
+    : >holding # what an earlier one said is no sign
     python3 hold.py held "$1" >holding &
     holder=$!
     disown "$holder" # it is killed below, and nobody needs to hear of it

@@ -83,8 +83,8 @@ enum part { ANY_PART, OF_ONE_FEN, AFTER_OTHERS, PAID_NOTHING, PAID_SHARE, PAID_F
 enum { NOT_LAST, LAST, TURNS };
 static unsigned long parts[TURNS][PARTS];
 
-/* trades of made-up images whose invoices are others, all sums fitting: what is paid with nothing confirmed, and with
- * something, is what it must be, a fen more, a fen less */
+/* trades of made-up images whose invoices are others, within the full payment and all sums fitting: what is paid with
+ * nothing confirmed, and with something, is what it must be, a fen more, a fen less */
 enum paid { MUST_BE, FEN_MORE, FEN_LESS, PAIDS };
 enum { NOTHING_CONFIRMED, SOME_CONFIRMED, CONFIRMEDS };
 static unsigned long put_paid[CONFIRMEDS][VERDICTS][PAIDS];
@@ -300,17 +300,24 @@ static int is_booked(const struct made *made, uint32_t buyer, uint64_t more)
     return frozen + more == crz_get_account(made->sound, buyer).frozen && total + more == crz_get_total(made->sound);
 }
 
-/* a trade whose pending, confirmed or paid is another: what decides is counted, and that alone */
+/* something is left to confirm, and no more is pending than that */
+static int is_within_full(const struct crz_receipt_fields *receipt)
+{
+    uint64_t full = crz_full_payment(receipt), confirmed = receipt->confirmed;
+    return confirmed < full && confirmed + receipt->pending <= full;
+}
+
+/* a trade whose pending, confirmed or paid is another is counted where nothing but paid can decide */
 static void count_put_paid(const struct made *made, uint32_t lot)
 {
     struct crz_receipt_fields now = crz_get_receipt(made->before, lot), then = crz_get_receipt(made->sound, lot);
     int bad = made->number == CRZ_NUMBER_BAD_IMAGE, some = now.confirmed != 0;
-    uint64_t full = crz_full_payment(&now), must = full == 0 ? 0 : crz_rest_payment(&now) * now.confirmed / full;
-    uint32_t beside = now.paid - (uint32_t)must;
-    if (now.state != CRZ_STATE_FIRST_PAID || then.state != now.state || full != crz_full_payment(&then)
+    uint32_t beside = now.paid - (uint32_t)crz_paid_of_rest(&now, now.confirmed);
+    if (now.state != CRZ_STATE_FIRST_PAID || then.state != now.state || !is_within_full(&now)
+        || crz_full_payment(&now) != crz_full_payment(&then)
         || !is_booked(made, now.buyer, (uint64_t)now.paid - then.paid))
         return;
-    put_paid[some][bad][MUST_BE] += beside == 0 && !bad;
+    put_paid[some][bad][MUST_BE] += beside == 0;
     put_paid[some][bad][FEN_MORE] += beside == 1;
     put_paid[some][bad][FEN_LESS] += beside == UINT32_MAX;
 }

@@ -91,13 +91,6 @@ static uint64_t premium_limit(const struct crz_receipt_fields *receipt)
     return (uint64_t)end - 1 + below(3);
 }
 
-/* what is paid of the rest where this much is confirmed (02 3/12); 0 for a lot without a price */
-static uint64_t paid_for(const struct crz_receipt_fields *receipt)
-{
-    uint64_t full = crz_full_payment(receipt);
-    return full == 0 ? 0 : crz_rest_payment(receipt) * receipt->confirmed / full;
-}
-
 /* a value at the field's own limit, or just beyond */
 static uint64_t limit_of(const struct crz_receipt_fields *receipt, unsigned offset)
 {
@@ -108,7 +101,7 @@ static uint64_t limit_of(const struct crz_receipt_fields *receipt, unsigned offs
     case CRZ_RECEIPT_PREMIUM: return premium_limit(receipt);
     case CRZ_RECEIPT_PENDING: return full - confirmed + beyond;
     case CRZ_RECEIPT_CONFIRMED: return percent(30) ? 0 : full - receipt->pending - 1 + beyond;
-    case CRZ_RECEIPT_PAID: return paid_for(receipt) - 1 + below(3);
+    case CRZ_RECEIPT_PAID: return crz_paid_of_rest(receipt, confirmed) - 1 + below(3);
     default: return percent(50) ? receipt->seller : receipt->buyer;
     }
 }
@@ -133,7 +126,7 @@ static void fit_paid(uint8_t *image, uint64_t number)
 {
     struct crz_receipt_fields receipt = crz_get_receipt(image, (uint32_t)number);
     uint8_t *paid = image + crz_receipt_offset((uint32_t)number) + CRZ_RECEIPT_PAID;
-    crz_put_bytes(paid, 4, paid_for(&receipt));
+    crz_put_bytes(paid, 4, crz_paid_of_rest(&receipt, receipt.confirmed));
 }
 
 static void damage_receipt(uint8_t *image, uint64_t number)
