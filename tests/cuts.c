@@ -1,5 +1,5 @@
 /*
- * Invoices cut in many ways (02 3/12). From one image with a trade in state 6 the same full payment is invoiced in
+ * Invoices cut in many ways (02 3/12). A trade whose first payment is made is invoiced, always from the same image, in
  * pieces of one fen, in halves, at random, at once, by itself and with other calls between. What lot LOT's outcomes 11
  * have paid is held to the formula at every confirmed sum, and to what the other ways have paid at the same sum; a
  * later trade of the same receipt is counted by itself. Images in which something else is paid are refused and stay as
