@@ -60,9 +60,9 @@ static const struct kind_words kinds[] = {
     {"first-payment", CRZ_KIND_FIRST_PAYMENT, LOT, PARTY_SELLER, BIT(CRZ_STATE_SETTLED),
         "pays 80 percent to the seller"},
     {"invoice", CRZ_KIND_INVOICE, LOT | BIT(FIELD_FEN), PARTY_SELLER, BIT(CRZ_STATE_FIRST_PAID),
-        "sends the buyer an invoice of no more than the full payment has left"},
+        "sends the buyer an invoice, at most what is left of the full payment"},
     {"confirm", CRZ_KIND_CONFIRM, LOT, PARTY_BUYER, BIT(CRZ_STATE_FIRST_PAID),
-        "confirms the pending invoice; pays what is owed of the rest by then and not paid yet"},
+        "confirms the pending invoice; pays what the confirmed sum then gives of the rest, less what was paid"},
     {"day-close", CRZ_KIND_DAY_CLOSE, 0, PARTY_HOST, 0,
         "ends listings and bids that were not struck; the next day begins"},
 };

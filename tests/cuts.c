@@ -42,7 +42,7 @@ static uint64_t formula(uint64_t confirmed)
     return trade.rest * confirmed / trade.full - trade.paid_at_start;
 }
 
-/* what leads to a test counts where it fails; ten failures are told */
+/* a step that leads to a test is counted where it fails; the first ten failures are printed */
 static void need(int ok, const char *what)
 {
     if (ok || ++failed > 10)
@@ -282,16 +282,16 @@ static struct {
 static size_t sum_count;
 
 /* how often a way came to a sum of another one; the full payment, where all of them meet, is not counted */
-static unsigned long meetings;
+static unsigned long common_sums;
 
-static void meet_others(void)
+static void compare_with_others(void)
 {
     size_t i = 0;
     while (i < sum_count && sums[i].confirmed != trade.confirmed)
         i++;
     if (i < sum_count) {
         expect(sums[i].paid == trade.paid, "another way of cutting has paid the same");
-        meetings += trade.confirmed < trade.full;
+        common_sums += trade.confirmed < trade.full;
         return;
     }
     if (sum_count < MOST_SUMS) {
@@ -311,7 +311,7 @@ static void confirm_pending(uint64_t pending)
     expect(trade.listed == listed + 1 && crz_get_answer(answer).count == 1 && entry.from == BUYER && entry.to == SELLER,
         "a part is listed once, from the buyer to the seller");
     expect(trade.paid == formula(trade.confirmed), "what is paid is the formula's");
-    meet_others();
+    compare_with_others();
 }
 
 /* `between` is 0 for no other calls, else where in their order they begin */
@@ -372,15 +372,15 @@ static void try_cuts(const struct terms *terms, enum beginning beginning)
 {
     unsigned i;
     sum_count = 0;
-    meetings = 0;
+    common_sums = 0;
     read_trade();
     for (i = 0; i < 2 * CUTS; i++)
         if (trade.full <= cuts[i / 2].most_full)
             cut_all(cuts[i / 2].size, terms, i % 2 == 0 ? 0 : i / 2 + 1);
     if (beginning == ALL_BUT_A_FEN)
-        expect(meetings == 0, "a last fen cannot be cut");
+        expect(common_sums == 0, "a last fen cannot be cut");
     else /* an invoice that is pending at the start brings all ways to one sum, which is not enough */
-        expect(meetings > 2 * CUTS, "ways of cutting meet at common sums");
+        expect(common_sums > 2 * CUTS, "ways of cutting meet at common sums");
 }
 
 /* 33, 33 and 34 pay 6, 7 and 7 */

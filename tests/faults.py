@@ -27,8 +27,8 @@ def faults_in(text):
         found = re.fullmatch(r"# (.*)\n(?:by: (.*)\n)?old: (.*)\nnew: (.*)", block)
         if not found:
             sys.exit("not a fault:\n" + block)
-        for program in (found.group(2) or "longrun").split():
-            yield found.group(1), program, found.group(3), found.group(4)
+        words, by, old, new = found.groups()
+        yield from ((words, program, old, new) for program in (by or "longrun").split())
 
 
 def objects_of(program):

@@ -23,8 +23,8 @@ ends 0 "register account N receipt N kilograms N [premium N]" help register
 ends 0 "premium     -5,000 to 5,000; 0 where it is left out" help register
 ends 0 "limit-bid account N receipt N yuan N" help limit-bid
 ends 0 "yuan        5 to 200,000 in steps of 5" help limit-bid
-ends 0 "the seller: sends the buyer an invoice of no more than the full payment has left" help invoice
-ends 0 "the buyer: confirms the pending invoice; pays what is owed of the rest by then and not paid yet" help confirm
+ends 0 "the seller: sends the buyer an invoice, at most what is left of the full payment" help invoice
+ends 0 "the buyer: confirms the pending invoice; pays what the confirmed sum then gives of the rest, less what was paid" help confirm
 ends 2 "'limt-bid' is no command and no kind of call; did you mean 'limit-bid'?" help limt-bid
 ends 0 "limit-bid account N receipt N yuan N" help call
 ends 0 "any account but the seller" help call

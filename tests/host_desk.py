@@ -67,7 +67,7 @@ class Lot:
         return self.full() - self.confirmed - self.pending
 
     def paid_at(self, confirmed):
-        """What is paid of the rest so far, for this sum confirmed so far."""
+        """What a confirmed sum has been paid of the rest (02 3/12)."""
         return self.rest() * confirmed // self.full()
 
     def next_part(self):

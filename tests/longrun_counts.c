@@ -2,8 +2,8 @@
  * What the long run has reached. Everything that can occur must occur: a pair of kind and number that never came, an
  * outcome, a contract that nothing was struck at, strikes of one quote at one price and at several, an amount or a
  * total at its limit, a premium at the ends of its range, every outcome of lots with a premium of either sign and with
- * none, a tonne that costs nothing or one yuan; parts of the rest of nothing, as large as the invoice's own share and
- * one fen larger, and images in which a fen too much or too little of it is paid.
+ * none, a tonne that costs nothing or one yuan; parts of 0 fen, parts as large as the invoice's own share and one fen
+ * larger, and images in which a fen too much or too little of a rest is paid.
  */
 #include "longrun.h"
 

@@ -81,6 +81,13 @@ fn is_trade(sound: &Page, altered: &Page, lot: u64) -> bool {
     in_parts & (full_of(sound, lot) == full_of(altered, lot))
 }
 
+// Invoices within the full payment: they do not decide.
+fn is_within_full(altered: &Page, lot: u64) -> bool {
+    let full = full_of(altered, lot);
+    let confirmed = page_cell(altered, CONFIRMED, lot);
+    (confirmed < full) & (plus(confirmed, page_cell(altered, PENDING, lot)) <= full)
+}
+
 // Whether frozen money and total went down by as much as paid went up: then the sums fit, and do not decide.
 fn is_booked(sound: &Page, altered: &Page, lot: u64) -> bool {
     let buyer = page_cell(altered, BUYER, lot);
@@ -104,7 +111,8 @@ fn count_paid(altered: &Page, lot: u64, number: u64, tally: &mut Tally) {
 
 fn count_trade(sound: &Page, altered: &Page, lot: u64, number: u64, tally: &mut Tally) {
     if other_invoices(sound, altered, lot) {
-        if is_trade(sound, altered, lot) & is_booked(sound, altered, lot) {
+        let booked = is_trade(sound, altered, lot) & is_booked(sound, altered, lot);
+        if booked & is_within_full(altered, lot) {
             count_paid(altered, lot, number, tally);
         }
     }

@@ -23,13 +23,11 @@ use Rattle.rules.specs.Laws.Links.{Linked, Walk, good-walk, receipt-beside}
 use Rattle.rules.specs.Order.{byPrice, answerOrder}
 use Rattle.rules.specs.View.{receiptOfNumber, viewOf, recordOfReceipt}
 use Rattle.image.specs.Image.{decode}
-use Rattle.image.specs.Laws.RoundTrip.{valid-decode}
 use Rattle.answers.specs.Buffers.{callIn, entriesIn}
 use Rattle.calls.specs.Laws.Lots.{all-lots}
-use Rattle.lots.specs.Laws.Visits.{good-decode}
 use Rattle.visits.specs.Laws.Strikes.{by-quote}
 use Rattle.claims.specs.PriceOrder.{EachEntry, Apart, StrikesBid, ByPrice, strikesOf, QuoteByPrice}
-use Rattle.claims.specs.Laws.Demand.{Zero, accepted-call, read-back}
+use Rattle.claims.specs.Laws.Demand.{good-image, Zero, accepted-call, read-back}
 use Rattle.claims.specs.Laws.Kept.{lots-ordered}
 use Rattle.claims.specs.Laws.Order.{ascending-apart, each-map, permuted-apart, permuted-each, price-permuted, price-descending}
 
@@ -115,7 +113,7 @@ module _ (image : List ℕ) (c : Call) (ok : Zero image c) (k : c .kind ≡ 9) w
   swept = atLots z c .entries
 
   good : Good z
-  good = good-decode image (valid-decode image (ok .valid))
+  good = good-image image (ok .valid)
 
   all-swept : swept ≡ strikesOf image c
   all-swept =
