@@ -1,5 +1,5 @@
--- The paper's fourteen examples (01 Examples 1 to 14), together as one fact of the rules, by computing: 1, 2, 3 and 6 on payments, the others on whole zones from a fresh one.
--- Every receipt has premium 0.
+-- The paper's fourteen examples (01 Examples 1 to 14), together as one fact of the rules, by computing: 1, 2, 3 and 6 on payments, the
+-- others on whole zones from a fresh one. Every receipt has premium 0, and 4 has the parts of 02 3/12.
 -- Assumes nothing.
 use mathlib.Core.List.{List, [], _∷_, _++_}
 use mathlib.Core.Path.{_≡_, refl}

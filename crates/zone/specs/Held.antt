@@ -19,8 +19,8 @@ full r = fullPayment (r .price) (r .basis) (r .premium) (r .weight)
 abbrev pub rest : Record → Fen
 rest r = restPayment (full r)
 
--- What the lot holds: the deposit in states 2 to 4, full once it is settled, then the rest less what its confirmed invoices have been paid (02 3/12).
--- Nothing is taken that is not there: `so-far-le-rest` (units, Laws/Bounds).
+-- What the lot holds: the deposit in states 2 to 4, full once it is settled, then the rest less what its confirmed invoices have been
+-- paid (02 3/12). Nothing is taken that is not there: `so-far-le-rest` (units, Laws/Bounds).
 unfoldable pub held : Record → Fen
 held r =
     cond (within 2 4 (r .state)) deposit

@@ -1,4 +1,5 @@
--- When an image is valid (01 Image 7 to 15, with the premium of 02 2/12 and the parts of 02 3/12), said of the fields that an image or a zone has.
+-- When an image is valid (01 Image 7 to 15, with the premium of 02 2/12 and the parts of 02 3/12), said of the fields that an image or a
+-- zone has.
 -- Assumes nothing.
 use mathlib.Core.Bool.{Bool, true, false, cond, not, _&&_, _||_}
 use mathlib.Core.List.{List, [], _∷_}

@@ -7,7 +7,7 @@ use mathlib.Core.Path.{_≡_, refl, sym, ap, _∙_, subst}
 use Prim.Native.Nat.{ℕ, suc, _+_, _<_}
 use native.Mathlib.Decide.{ℕ-discrete}
 use native.Mathlib.Omega.{arith}
-use borrow.Author.Tests.{eqb-true, eq-eqb, ne-eqb, not-true, not-false}
+use borrow.Author.Tests.{eqb-true, eq-eqb, ne-eqb}
 use lib.Dec.{eqb, leb}
 use Rattle.units.specs.declared.Fen.{Fen}
 use Rattle.units.specs.Laws.Bounds.{so-far-full}
@@ -23,14 +23,14 @@ use Rattle.zone.specs.Record.{recordOf, tradeOf}
 use Rattle.rules.specs.declared.Call.{Call}
 use Rattle.rules.specs.declared.Entry.{Entry}
 use Rattle.rules.specs.declared.View.{View}
-use Rattle.rules.specs.Effects.{eventOf, quoteMeets, register, listFor, withdrawListing, limitBid, marketBid, withdrawBid, quoteLot, lodge, closeLot, payFirst, sendInvoice, confirm, dayCloseLot, noRule, ruleOf, ruleAt, opening, atLots, effect}
+use Rattle.rules.specs.Effects.{eventOf, quoteMeets, register, listFor, withdrawListing, limitBid, marketBid, withdrawBid, quoteLot, lodge, closeLot, payFirst, sendInvoice, confirm, dayCloseLot, noRule, ruleOf, ruleAt, atLots, effect}
 use Rattle.rules.specs.Events.{posted, Done}
-use Rattle.rules.specs.Laws.Chain.{On, none, event, only, chosen, on-event, Visit, Taken, taken}
+use Rattle.rules.specs.Laws.Chain.{On, none, event, only, chosen, on-event, Visit}
 use Rattle.rules.specs.Laws.Good.{Good, valid-at}
-use Rattle.rules.specs.Laws.Keeps.{opened, ended, opening-good}
+use Rattle.rules.specs.Laws.Keeps.{call-walk}
 use Rattle.rules.specs.Laws.Kinds.{withKind, ByKind, by-kind}
-use Rattle.rules.specs.Laws.Links.{tested, visit-kind, at-named, Linked, Walk, good-walk, receipt-at, receipt-beside}
-use Rattle.rules.specs.Laws.Passed.{in-state, by-party}
+use Rattle.rules.specs.Laws.Links.{tested, visit-kind, at-named, Linked, Walk, receipt-beside, linked-receipt}
+use Rattle.rules.specs.Laws.Passed.{in-state, by-party, unowned}
 use Rattle.rules.specs.Laws.Receipts.{PartPaid, part-paid, partOf, confirmedInvoices}
 use Rattle.rules.specs.Steps.{numberOn}
 use Rattle.rules.specs.Tables.{among}
@@ -74,9 +74,7 @@ module _ (z : Zone) (G : Good z) (c : Call) (n : ℕ) (six : recordOfReceipt z n
   Becoming k = Visit (withKind c k) z n → On (BecomesAt (withKind c k) n f) (ruleAt (withKind c k) z n)
 
   registration : {X : Type 0} → Visit (withKind c 3) z n → X
-  registration v =
-      let free : f .owner ≡ 0 = eqb-true (f .owner) 0 (not-false _ (not-true _ (in-state (tested refl v)))) in
-      absurd (owner-some f (valid-at z G n) (omega arith) free)
+  registration v = absurd (owner-some f (valid-at z G n) (omega arith) (unowned c (tested refl v)))
 
   morning-close : On (BecomesAt (withKind c 11) n f) (closeLot (viewOf z (c .account) f) n f)
   unfolding closeLot
@@ -147,34 +145,35 @@ becomes-as : {c : Call} {k : ℕ} {f : Record} {a b : ℕ} {f′ f″ : Record} 
 becomes-as {c} {k} {f} {a} {b} {f′} {f″} p q T = subst (λ (g : Record). Becomes c k f b g) q (subst (λ (n : ℕ). Becomes c k f n f′) p T)
 
 -- a chain from lot lo on leaves a lot below lo; what it makes of a trade that it finds in state 6
-record OverChain (c : Call) (k lo : ℕ) (z : Zone) (es : List Entry) (last : Zone) : Type 0 where
-  untouched : k < lo → (receiptOfNumber (last .receipts) k ≡ receiptOfNumber (z .receipts) k) × (partsIn k es ≡ 0)
-  becomes : recordOfReceipt z k .state ≡ 6 → Becomes c k (recordOfReceipt z k) (partsIn k es) (recordOfReceipt last k)
+record OverChain (c : Call) (k lo : ℕ) (rs : List Receipt) (es : List Entry) (last : List Receipt) : Type 0 where
+  untouched : k < lo → (receiptOfNumber last k ≡ receiptOfNumber rs k) × (partsIn k es ≡ 0)
+  becomes : recordOf (receiptOfNumber rs k) .state ≡ 6 → Becomes c k (recordOf (receiptOfNumber rs k)) (partsIn k es) (recordOf (receiptOfNumber last k))
 
-module _ {c : Call} {k lo : ℕ} {z : Zone} {es : List Entry} {last : Zone} {n : ℕ} {e : Entry} {r : Receipt} (L : Linked c lo z n e r)
-    (K : OverChain c k (suc n) (posted z e r) es last) where
+module _ {c : Call} {k lo : ℕ} {z : Zone} {es : List Entry} {last : List Receipt} {n : ℕ} {e : Entry} {r : Receipt} (L : Linked c lo z n e r)
+    (K : OverChain c k (suc n) (posted z e r .receipts) es last) where
+  abbrev After : Type 0
+  After = Becomes c k (recordOfReceipt z k) (partIn k e + partsIn k es) (recordOf (receiptOfNumber last k))
+
   lot-is : e .lot ≡ n
   lot-is = L .fit .entry .lot
 
-  beside : k ≢ e .lot → recordOfReceipt z k .state ≡ 6 → Becomes c k (recordOfReceipt z k) (partIn k e + partsIn k es) (recordOfReceipt last k)
+  beside : k ≢ e .lot → recordOfReceipt z k .state ≡ 6 → After
   beside o s =
-      let same = receipt-beside z e r k o in
       let none-here : partIn k e ≡ 0 = part-beside k e (λ q. o (sym q)) in
       becomes-as (omega (arith, none-here)) refl
-      (subst (λ (x : Receipt). recordOf x .state ≡ 6 → Becomes c k (recordOf x) (partsIn k es) (recordOfReceipt last k)) same (K .becomes) s)
+      (subst (λ (x : Receipt). recordOf x .state ≡ 6 → Becomes c k (recordOf x) (partsIn k es) (recordOf (receiptOfNumber last k))) (receipt-beside z e r k o)
+      (K .becomes) s)
 
-  here : k ≡ e .lot → recordOfReceipt z k .state ≡ 6 → Becomes c k (recordOfReceipt z k) (partIn k e + partsIn k es) (recordOfReceipt last k)
-  here q s =
-      let m : n ≡ k = sym lot-is ∙ sym q in
+  here : n ≡ k → recordOfReceipt z k .state ≡ 6 → After
+  here m s =
       let after = K .untouched (omega (arith, m)) in
-      let at : receiptOfNumber (posted z e r .receipts) k ≡ r =
-      rw q (receipt-at z e r (L .good .sized) (rw lot-is (L .low)) (rw lot-is (L .high))) in
+      let at : receiptOfNumber (posted z e r .receipts) k ≡ r = subst (λ (j : ℕ). receiptOfNumber (posted z e r .receipts) j ≡ r) m (linked-receipt L) in
       let six : recordOfReceipt z n .state ≡ 6 = rw m s in
       let T : Becomes c n (recordOfReceipt z n) (ownPart e) (recordOf r) = on-event (becomes z (L .good) c n six (L .visit)) (L .rule) in
-      becomes-as (omega (arith, part-own k e (sym q), after .1)) (sym (ap recordOf (after .0 ∙ at)))
+      becomes-as (omega (arith, part-own k e (lot-is ∙ m), after .1)) (sym (ap recordOf (after .0 ∙ at)))
       (subst (λ (j : ℕ). Becomes c j (recordOfReceipt z j) (ownPart e) (recordOf r)) m T)
 
-  over-event : OverChain c k lo z (e ∷ es) last
+  over-event : OverChain c k lo (z .receipts) (e ∷ es) last
   unfolding partsIn
   over-event =
       record {
@@ -182,14 +181,14 @@ module _ {c : Call} {k lo : ℕ} {z : Zone} {es : List Entry} {last : Zone} {n :
             let o : k ≢ e .lot = λ q. omega (arith, L .above, lot-is) in
             let after = K .untouched (omega (arith, L .above)) in
             (after .0 ∙ receipt-beside z e r k o, omega (arith, part-beside k e (λ q. o (sym q)), after .1));
-        becomes = λ s. go s (ℕ-discrete k (e .lot));
+        becomes = λ s. go s (ℕ-discrete n k);
       }
     where
-      go : recordOfReceipt z k .state ≡ 6 → Dec (k ≡ e .lot) → Becomes c k (recordOfReceipt z k) (partIn k e + partsIn k es) (recordOfReceipt last k)
-      go s (yes q) = here q s
-      go s (no o) = beside o s
+      go : recordOfReceipt z k .state ≡ 6 → Dec (n ≡ k) → After
+      go s (yes m) = here m s
+      go s (no o) = beside (λ q. o (sym (q ∙ lot-is))) s
 
-over-chain : (c : Call) (k : ℕ) → Walk c (OverChain c k)
+over-chain : (c : Call) (k : ℕ) → Walk c (λ lo z es last. OverChain c k lo (z .receipts) es (last .receipts))
 unfolding partsIn
 over-chain c k =
     record {
@@ -201,14 +200,7 @@ call-becomes : (z : Zone) (c : Call) → Good z → numberOn z c ≡ 0 → (k : 
     → Becomes c k (recordOfReceipt z k) (partsIn k (effect z c .entries)) (recordOfReceipt (effect z c .zone) k)
 unfolding effect
 call-becomes z c G q k s =
-    let T : Taken z c = taken z c q in
-    let of : List Receipt → Record = λ rs. recordOf (receiptOfNumber rs k) in
-    let O : of (opening c z .receipts) ≡ of (z .receipts) = ap of (opened c z .receipts) in
-    let W : Becomes c k (of (opening c z .receipts)) (partsIn k (atLots z c .entries)) (of (T .last .receipts)) =
-    good-walk (over-chain c k) (T .chain) (opening-good z G c (T .passed)) .becomes (ap (λ (f : Record). f .state) O ∙ s) in
-    becomes-as (parts-permuted k (answer-permuted (c .kind) (atLots z c .entries)))
-    (sym (ap (λ (y : Zone). of (y .receipts)) (T .zone) ∙ ap of (ended c (T .last) .receipts)))
-    (subst (λ (f : Record). Becomes c k f (partsIn k (atLots z c .entries)) (of (T .last .receipts))) O W)
+    becomes-as (parts-permuted k (answer-permuted (c .kind) (atLots z c .entries))) refl (call-walk (OverChain c k) z c G q (over-chain c k) .becomes s)
 
 -- ── On bytes ───────────────────────────────────────────────────────────────────────────────────
 

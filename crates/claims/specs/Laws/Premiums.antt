@@ -1,13 +1,13 @@
 -- The premium of a receipt: from the rule of each kind to every call, and from there to every list of calls.
 -- Assumes nothing.
-use mathlib.Core.Bool.{Bool, true, not, true≢false, and-false}
+use mathlib.Core.Bool.{Bool, true, true≢false, and-false}
 use mathlib.Core.List.{List, [], _∷_, map}
 use mathlib.Core.Logic.{_≢_}
 use mathlib.Core.Path.{_≡_, refl, sym, ap, _∙_, subst}
 use Prim.Native.Nat.{ℕ}
 use native.Mathlib.Decide.{ℕ-discrete}
 use native.Mathlib.Omega.{arith}
-use borrow.Author.Tests.{eqb-true, eq-eqb, ne-eqb, not-true, not-false}
+use borrow.Author.Tests.{eq-eqb, ne-eqb}
 use lib.Dec.{eqb, leb}
 use lib.IntN.{ℤ, pos}
 use Rattle.units.specs.declared.Premium.{Premium}
@@ -27,12 +27,12 @@ use Rattle.rules.specs.declared.Entry.{Entry}
 use Rattle.rules.specs.declared.View.{View}
 use Rattle.rules.specs.Effects.{withLot, meetsAsk, quoteMeets, register, listFor, withdrawListing, limitBid, marketBid, withdrawBid, quoteLot, lodge, hasMoney, closeLot, payFirst, sendInvoice, confirm, dayCloseLot, noRule, ruleOf, ruleAt, opening, ending, firstLot, lotCount, effect}
 use Rattle.rules.specs.Events.{posted, sweep}
-use Rattle.rules.specs.Laws.Chain.{On, none, event, chosen, only, on-event, Visit, Taken, taken}
+use Rattle.rules.specs.Laws.Chain.{On, none, event, chosen, only, on-event, Visit}
 use Rattle.rules.specs.Laws.Good.{Good, valid-at}
-use Rattle.rules.specs.Laws.Keeps.{opened, ended, opening-good}
+use Rattle.rules.specs.Laws.Keeps.{call-walk}
 use Rattle.rules.specs.Laws.Kinds.{withKind, ByKind, by-kind}
-use Rattle.rules.specs.Laws.Links.{tested, visit-kind, Linked, Walk, good-walk, receipt-at, receipt-beside}
-use Rattle.rules.specs.Laws.Passed.{PassedAt, passed-at, as-kind, ranges, in-state}
+use Rattle.rules.specs.Laws.Links.{tested, visit-kind, Linked, receipt-at, receipt-beside, linked-receipt}
+use Rattle.rules.specs.Laws.Passed.{PassedAt, passed-at, as-kind, ranges, unowned}
 use Rattle.rules.specs.Laws.Receipts.{buyer-in}
 use Rattle.rules.specs.Laws.Tables.{among-one}
 use Rattle.rules.specs.Steps.{numberOn}
@@ -92,12 +92,8 @@ module _ (z : Zone) (G : Good z) (c : Call) (n : ℕ) where
       (λ h. chosen money _ _ (λ _. kept 11 other f) (λ _. kept 11 other f)) λ _.
       only (among (f .state) (7 ∷ [])) _ (λ _. kept 11 other f)
 
-  -- a registration finds a receipt that nobody owns
   registration : Visit (withKind c 3) z n → f .owner ≡ 0
-  registration v = eqb-true (f .owner) 0 (not-not (in-state (tested refl v)))
-    where
-      not-not : {b : Bool} → not (not b) ≡ true → b ≡ true
-      not-not {b} h = not-false b (not-true (not b) h)
+  registration v = unowned c (tested refl v)
 
   by-rule : ByKind Carrying
   unfolding ruleOf noRule register listFor withdrawListing limitBid marketBid withdrawBid quoteLot lodge payFirst sendInvoice confirm dayCloseLot
@@ -127,18 +123,10 @@ module _ (z : Zone) (G : Good z) (c : Call) (n : ℕ) where
 
 -- ── One call ───────────────────────────────────────────────────────────────────────────────────
 
--- receipt k of a zone has an owner and premium p
-record GradedAt (z : Zone) (k : ℕ) (p : Premium) : Type 0 where
-  registered : receiptOfNumber (z .receipts) k .owner ≢ 0
-  premium : receiptOfNumber (z .receipts) k .premium ≡ p
-
--- by the table of receipts alone
-same-receipts : {y z : Zone} {k : ℕ} {p : Premium} → y .receipts ≡ z .receipts → GradedAt y k p → GradedAt z k p
-same-receipts {y} {z} {k} e S =
-    record {
-      registered = subst (λ (rs : List Receipt). receiptOfNumber rs k .owner ≢ 0) e (S .registered);
-      premium = ap (λ (rs : List Receipt). receiptOfNumber rs k .premium) (sym e) ∙ S .premium;
-    }
+-- receipt k has an owner and premium p
+record GradedAt (rs : List Receipt) (k : ℕ) (p : Premium) : Type 0 where
+  registered : receiptOfNumber rs k .owner ≢ 0
+  premium : receiptOfNumber rs k .premium ≡ p
 
 -- what receipt k of the next zone is: another than before only at the lot of the event
 data Next (z : Zone) (e : Entry) (r : Receipt) (k : ℕ) (kind : ℕ) (x : Receipt) : Type 0 where
@@ -147,22 +135,20 @@ data Next (z : Zone) (e : Entry) (r : Receipt) (k : ℕ) (kind : ℕ) (x : Recei
 
 next-receipt : {c : Call} {lo : ℕ} {z : Zone} {n : ℕ} {e : Entry} {r : Receipt} → Linked c lo z n e r → (k : ℕ)
     → Next z e r k (c .kind) (receiptOfNumber (posted z e r .receipts) k)
-next-receipt {c} {lo} {z} {n} {e} {r} L k = go (ℕ-discrete k (e .lot))
+next-receipt {c} {lo} {z} {n} {e} {r} L k = go (ℕ-discrete n k)
   where
-    go : Dec (k ≡ e .lot) → Next z e r k (c .kind) (receiptOfNumber (posted z e r .receipts) k)
+    go : Dec (n ≡ k) → Next z e r k (c .kind) (receiptOfNumber (posted z e r .receipts) k)
     go (yes q) =
-        let m : n ≡ k = sym (L .fit .entry .lot) ∙ sym q in
-        changed
-        (rw q (receipt-at z e r (L .good .sized) (rw (L .fit .entry .lot) (L .low)) (rw (L .fit .entry .lot) (L .high))))
-        (subst (λ (j : ℕ). Carries (c .kind) (recordOfReceipt z j) r) m (on-event (carries z (L .good) c n (L .visit)) (L .rule)))
-    go (no n) = same (receipt-beside z e r k n)
+        subst (λ (j : ℕ). Next z e r j (c .kind) (receiptOfNumber (posted z e r .receipts) j)) q
+        (changed (linked-receipt L) (on-event (carries z (L .good) c n (L .visit)) (L .rule)))
+    go (no o) = same (receipt-beside z e r k (λ q. o (sym (q ∙ L .fit .entry .lot))))
 
 -- over an event
 posted-graded : {c : Call} {lo : ℕ} {z : Zone} {n : ℕ} {e : Entry} {r : Receipt} → Linked c lo z n e r → (k : ℕ) (p : Premium)
-    → GradedAt z k p → GradedAt (posted z e r) k p
+    → GradedAt (z .receipts) k p → GradedAt (posted z e r .receipts) k p
 posted-graded {c} {lo} {z} {n} {e} {r} L k p S = go (next-receipt L k)
   where
-    go : Next z e r k (c .kind) (receiptOfNumber (posted z e r .receipts) k) → GradedAt (posted z e r) k p
+    go : Next z e r k (c .kind) (receiptOfNumber (posted z e r .receipts) k) → GradedAt (posted z e r .receipts) k p
     go (same q) =
         record {
           registered = λ o. S .registered (ap (λ (x : Receipt). x .owner) (sym q) ∙ o);
@@ -176,37 +162,24 @@ posted-graded {c} {lo} {z} {n} {e} {r} L k p S = go (next-receipt L k)
           premium = ap (λ (x : Receipt). x .premium) q ∙ K .premium (λ e. o (K .unowned e)) ∙ F .premium ∙ S .premium;
         }
 
--- over the events of a call
-graded-walk : (c : Call) → Walk c (λ lo z es last. (k : ℕ) (p : Premium) → GradedAt z k p → GradedAt last k p)
-graded-walk c = record { end = λ G k p S. S; step = λ L K k p S. K k p (posted-graded L k p S) }
-
 -- over an accepted call
-call-graded : (z : Zone) (c : Call) → Good z → numberOn z c ≡ 0 → (k : ℕ) (p : Premium) → GradedAt z k p → GradedAt (effect z c .zone) k p
-call-graded z c G q k p S =
-    let T : Taken z c = taken z c q in
-    let O : GradedAt (opening c z) k p = same-receipts (sym (opened c z .receipts)) S in
-    let K : GradedAt (T .last) k p = good-walk (graded-walk c) (T .chain) (opening-good z G c (T .passed)) k p O in
-    subst (λ (y : Zone). GradedAt y k p) (sym (T .zone)) (same-receipts (sym (ended c (T .last) .receipts)) K)
+call-graded : (z : Zone) (c : Call) → Good z → numberOn z c ≡ 0 → (k : ℕ) (p : Premium) → GradedAt (z .receipts) k p → GradedAt (effect z c .zone .receipts) k p
+call-graded z c G q k p =
+    call-walk (λ lo rs es last. GradedAt rs k p → GradedAt last k p) z c G q
+    (record { end = λ G S. S; step = λ L K S. K (posted-graded L k p S) })
 
 -- over every kind but a registration no receipt has another premium
-premium-walk : (c : Call) → c .kind ≢ 3 → Walk c (λ lo z es last. (k : ℕ) → receiptOfNumber (last .receipts) k .premium ≡ receiptOfNumber (z .receipts) k .premium)
-premium-walk c o = record { end = λ G k. refl; step = λ L K k. K k ∙ one L k (next-receipt L k) }
+other-premium : (z : Zone) (c : Call) → Good z → c .kind ≢ 3 → numberOn z c ≡ 0 → (k : ℕ)
+    → receiptOfNumber (effect z c .zone .receipts) k .premium ≡ receiptOfNumber (z .receipts) k .premium
+other-premium z c G o q k =
+    call-walk (λ lo rs es last. receiptOfNumber last k .premium ≡ receiptOfNumber rs k .premium) z c G q
+    (record { end = λ G. refl; step = λ L K. K ∙ one L k (next-receipt L k) })
   where
     one : {lo : ℕ} {z : Zone} {n : ℕ} {e : Entry} {r : Receipt} → Linked c lo z n e r → (k : ℕ)
         → Next z e r k (c .kind) (receiptOfNumber (posted z e r .receipts) k)
         → receiptOfNumber (posted z e r .receipts) k .premium ≡ receiptOfNumber (z .receipts) k .premium
     one {z = z} L k (same q) = ap (λ (x : Receipt). x .premium) q
     one {z = z} L k (changed q K) = ap (λ (x : Receipt). x .premium) q ∙ K .premium o ∙ own-fields (receiptOfNumber (z .receipts) k) .premium
-
-other-premium : (z : Zone) (c : Call) → Good z → c .kind ≢ 3 → numberOn z c ≡ 0 → (k : ℕ)
-    → receiptOfNumber (effect z c .zone .receipts) k .premium ≡ receiptOfNumber (z .receipts) k .premium
-other-premium z c G o q k =
-    let T : Taken z c = taken z c q in
-    let of : List Receipt → Premium = λ rs. receiptOfNumber rs k .premium in
-    ap (λ (y : Zone). of (y .receipts)) (T .zone)
-    ∙ ap of (ended c (T .last) .receipts)
-    ∙ good-walk (premium-walk c o) (T .chain) (opening-good z G c (T .passed)) k
-    ∙ ap of (opened c z .receipts)
 
 -- the receipts after a registration
 module _ (z : Zone) (c : Call) (G : Good z) (P : PassedAt (withKind c 3) z (c .receipt)) where
@@ -221,12 +194,12 @@ module _ (z : Zone) (c : Call) (G : Good z) (P : PassedAt (withKind c 3) z (c .r
   unfolding effect opening ending firstLot lotCount sweep ruleOf register
   beside k n = receipt-beside z _ _ k n
 
-register-graded : (z : Zone) (c : Call) → Good z → c .kind ≡ 3 → numberOn z c ≡ 0 → GradedAt (effect z c .zone) (c .receipt) (record { 0 = c .basis })
+register-graded : (z : Zone) (c : Call) → Good z → c .kind ≡ 3 → numberOn z c ≡ 0 → GradedAt (effect z c .zone .receipts) (c .receipt) (record { 0 = c .basis })
 register-graded z c G e q =
     let P : PassedAt (withKind c 3) z (c .receipt) = as-kind c 3 e (passed-at z c q) in
     let at = registered-at z c G P in
     let a : InRange 1 accountCount (c .account) = range-in (ranges P .0) in
-    subst (λ (k : ℕ). GradedAt (effect z (withKind c k) .zone) (c .receipt) (record { 0 = c .basis })) (sym e)
+    subst (λ (k : ℕ). GradedAt (effect z (withKind c k) .zone .receipts) (c .receipt) (record { 0 = c .basis })) (sym e)
     (record {
       registered = λ o. let none : c .account ≡ 0 = ap (λ (x : Receipt). x .owner) (sym at) ∙ o in omega (arith, a .low);
       premium = ap (λ (x : Receipt). x .premium) at;
@@ -251,12 +224,12 @@ call-premium z c es G q k = go (ℕ-discrete (c .kind) 3) (ℕ-discrete k (c .re
 -- ── On bytes ───────────────────────────────────────────────────────────────────────────────────
 
 -- of an image, from its zone
-graded-in : {z : Zone} {image : List ℕ} {k : ℕ} {p : ℤ} → decode image ≡ z → GradedAt z k (record { 0 = p }) → Graded image k p
+graded-in : {z : Zone} {image : List ℕ} {k : ℕ} {p : ℤ} → decode image ≡ z → GradedAt (z .receipts) k (record { 0 = p }) → Graded image k p
 graded-in {z} {image} {k} {p} e S =
-    let T : GradedAt (decode image) k (record { 0 = p }) = subst (λ (y : Zone). GradedAt y k (record { 0 = p })) (sym e) S in
+    let T : GradedAt (decode image .receipts) k (record { 0 = p }) = subst (λ (y : Zone). GradedAt (y .receipts) k (record { 0 = p })) (sym e) S in
     record { registered = T .registered; premium = ap (λ (x : Premium). x .0) (T .premium) }
 
-in-graded : {image : List ℕ} {k : ℕ} {p : ℤ} → Graded image k p → GradedAt (decode image) k (record { 0 = p })
+in-graded : {image : List ℕ} {k : ℕ} {p : ℤ} → Graded image k p → GradedAt (decode image .receipts) k (record { 0 = p })
 in-graded S = record { registered = S .registered; premium = ap (λ (x : ℤ). record { 0 = x }) (S .premium) }
 
 -- an accepted call on an image

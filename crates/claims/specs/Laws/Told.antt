@@ -7,7 +7,7 @@ use mathlib.Core.Path.{_≡_, refl, sym, ap, _∙_}
 use Prim.Native.Nat.{ℕ, _+_, _-_, _≤_, _<_}
 use native.Mathlib.Decide.{ℕ-discrete}
 use native.Mathlib.Omega.{arith}
-use borrow.Author.Tests.{eqb-true, eq-eqb, ne-eqb, not-true, not-false}
+use borrow.Author.Tests.{eqb-true, eq-eqb, ne-eqb}
 use lib.Dec.{eqb, leb}
 use Rattle.units.specs.declared.Fen.{Fen}
 use Rattle.units.specs.Payments.{firstPayment, paidSoFar}
@@ -31,7 +31,7 @@ use Rattle.rules.specs.Effects.{entryOf, eventOf, meetsAsk, hasMoney, bidStruck
 use Rattle.rules.specs.Laws.Chain.{On, none, event, chosen, only, on-event, Visit}
 use Rattle.rules.specs.Laws.Kinds.{withKind, ByKind, by-kind}
 use Rattle.rules.specs.Laws.Links.{tested, visit-kind}
-use Rattle.rules.specs.Laws.Passed.{in-state, ranges}
+use Rattle.rules.specs.Laws.Passed.{in-state, ranges, unowned}
 use Rattle.rules.specs.Laws.Receipts.{PartPaid, part-paid, partOf, confirmedInvoices, buyer-in}
 use Rattle.rules.specs.Laws.Tables.{among-one}
 use Rattle.rules.specs.Tables.{among}
@@ -224,7 +224,7 @@ module _ (c : Call) (z : Zone) (p : Past) (n : ℕ) (ok : recordValid (recordOfR
         register = λ t.
             let P = tested refl t in
             let by : InRange 1 accountCount (c .account) = range-in (ranges P .0) in
-            register-told (withKind c 3) v p n f K (eqb-true _ _ (not-false _ (not-true _ (in-state P)))) (by .low);
+            register-told (withKind c 3) v p n f K (unowned c P) (by .low);
         list = λ _. listFor-told (withKind c 4) v p n f K;
         withdrawListing = λ _. withdrawListing-told (withKind c 5) v p n f K;
         limitBid = λ _. limitBid-told (withKind c 6) v p n f K refl;

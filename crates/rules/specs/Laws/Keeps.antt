@@ -11,21 +11,23 @@ use lib.Dec.{eqb}
 use lib.ListN.{length}
 use Rattle.units.specs.Payments.{fen}
 use Rattle.units.specs.Ranges.{accountCount, lastDay}
+use Rattle.zone.specs.declared.Receipt.{Receipt}
 use Rattle.zone.specs.declared.Zone.{Zone}
 use Rattle.zone.specs.Laws.Tests.{InRange, range-in}
 use Rattle.zone.specs.Valid.{all, askOk}
 use Rattle.rules.specs.declared.Call.{Call}
 use Rattle.rules.specs.declared.Entry.{Entry}
-use Rattle.rules.specs.Effects.{opening, ending, effect}
+use Rattle.rules.specs.Effects.{opening, ending, atLots, effect}
 use Rattle.rules.specs.Events.{posted}
-use Rattle.rules.specs.Laws.Chain.{Chain, Taken, walk}
+use Rattle.rules.specs.Laws.Chain.{Chain, Taken, taken, walk}
 use Rattle.rules.specs.Laws.Good.{Good}
 use Rattle.rules.specs.Laws.Kinds.{withKind}
-use Rattle.rules.specs.Laws.Links.{last-good}
+use Rattle.rules.specs.Laws.Links.{Walk, good-walk, last-good}
 use Rattle.rules.specs.Laws.Moves.{frozen-credit, frozen-debit, length-credit, length-debit, all-credit, all-debit}
 use Rattle.rules.specs.Laws.Passed.{PassedAt, ranges}
 use Rattle.rules.specs.Laws.Tables.{length-put, all-put, special, among-none}
 use Rattle.rules.specs.Numbers.{wrongPhase, lacksMoney, aboveLimit}
+use Rattle.rules.specs.Steps.{numberOn}
 use Rattle.rules.specs.Tables.{among}
 use Rattle.rules.specs.View.{freeOf, viewOf}
 
@@ -200,3 +202,14 @@ taken-good {z} {c} T G =
     let O : Good (opening c z) = opening-good z G c P in
     subst Good (sym (T .zone))
     (ending-good z (T .last) (chain-day (T .chain) ∙ opened c z .day) (last-good (T .chain) O) c P)
+
+-- What a walk tells of receipts and entries holds over a whole accepted call: its opening and its ending leave every receipt.
+pub call-walk : (P : ℕ → List Receipt → List Entry → List Receipt → Type 0) (z : Zone) (c : Call) → Good z → numberOn z c ≡ 0
+    → Walk c (λ lo y es last. P lo (y .receipts) es (last .receipts)) → P 1 (z .receipts) (atLots z c .entries) (effect z c .zone .receipts)
+call-walk P z c G q W =
+    let T : Taken z c = taken z c q in
+    let es : List Entry = atLots z c .entries in
+    let K : P 1 (opening c z .receipts) es (T .last .receipts) = good-walk W (T .chain) (opening-good z G c (T .passed)) in
+    let left : effect z c .zone .receipts ≡ T .last .receipts = ap (λ (y : Zone). y .receipts) (T .zone) ∙ ended c (T .last) .receipts in
+    subst (λ (rs : List Receipt). P 1 (z .receipts) es rs) (sym left)
+    (subst (λ (rs : List Receipt). P 1 rs es (T .last .receipts)) (opened c z .receipts) K)

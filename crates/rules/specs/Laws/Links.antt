@@ -3,7 +3,7 @@
 use mathlib.Core.Bool.{true, false, true≢false}
 use mathlib.Core.List.{List, [], _∷_}
 use mathlib.Core.Logic.{_≢_}
-use mathlib.Core.Path.{_≡_, refl, sym, _∙_}
+use mathlib.Core.Path.{_≡_, refl, sym, _∙_, subst}
 use Prim.Native.Nat.{ℕ, suc, _≤_, _<_}
 use Rattle.units.specs.Ranges.{within, receiptCount, lastDay}
 use Rattle.zone.specs.declared.Receipt.{Receipt}
@@ -120,6 +120,12 @@ receipt-at z e r S low high = nth-put-same noReceipt (z .receipts) (e .lot) r lo
 pub receipt-beside : (z : Zone) (e : Entry) (r : Receipt) (k : ℕ) → k ≢ e .lot → receiptOfNumber (posted z e r .receipts) k ≡ receiptOfNumber (z .receipts) k
 unfolding posted receiptOfNumber
 receipt-beside z e r k n = nth-put-other noReceipt (z .receipts) k (e .lot) r n
+
+-- at a link, by the lot that has the event
+pub linked-receipt : {c : Call} {lo : ℕ} {z : Zone} {n : ℕ} {e : Entry} {r : Receipt} → Linked c lo z n e r → receiptOfNumber (posted z e r .receipts) n ≡ r
+linked-receipt {z = z} {e = e} {r = r} L =
+    let q = L .fit .entry .lot in
+    subst (λ (j : ℕ). receiptOfNumber (posted z e r .receipts) j ≡ r) q (receipt-at z e r (L .good .sized) (rw q (L .low)) (rw q (L .high)))
 
 -- A claim about chains from a good zone: it holds where there is no event, and over an event where it holds after it.
 pub record Walk (c : Call) (P : ℕ → Zone → List Entry → Zone → Type 0) : Type 0 where

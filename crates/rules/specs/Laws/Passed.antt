@@ -5,7 +5,7 @@ use mathlib.Core.List.{List, [], _∷_}
 use mathlib.Core.Path.{_≡_, refl, sym, _∙_, subst}
 use Prim.Native.Nat.{ℕ, suc}
 use native.Mathlib.Omega.{arith}
-use borrow.Author.Tests.{not-false}
+use borrow.Author.Tests.{eqb-true, not-true, not-false}
 use lib.IntN.{pos}
 use lib.ListN.{getD}
 use Rattle.units.specs.Ranges.{within}
@@ -103,3 +103,7 @@ module _ {v : View} {c : Call} {f : Record} (P : Passed v c f) where
   pub by-party : isPartyNamed c f ≡ true
   unfolding wrongParty
   by-party = not-false _ (P .party)
+
+-- a registration finds a receipt that nobody owns
+pub unowned : {v : View} (c : Call) {f : Record} → Passed v (withKind c 3) f → f .owner ≡ 0
+unowned c {f = f} P = eqb-true (f .owner) 0 (not-false _ (not-true _ (in-state P)))
