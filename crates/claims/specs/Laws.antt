@@ -8,4 +8,5 @@ pub mod Demand
 pub mod Quotes
 pub mod Premiums
 pub mod Cutting
+pub mod FrozenSums
 pub mod RoundTrips

@@ -12,4 +12,5 @@ pub mod Premiums
 pub mod PremiumTrades
 pub mod Cutting
 pub mod CutTrades
+pub mod FrozenSums
 pub mod Laws

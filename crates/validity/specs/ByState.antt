@@ -1,11 +1,15 @@
 -- What a state fills and what it leaves, as tests of a record: the validity of a record (zone, Valid.antt) said state by state, as the
--- code tests it. No promise of a public function cites it.
+-- code tests it.
 -- Assumes nothing.
 use mathlib.Core.Bool.{Bool, not, _&&_}
-use lib.Dec.{eqb}
+use lib.Dec.{eqb, leb}
 use Rattle.units.specs.Payments.{payable}
-use Rattle.units.specs.Ranges.{within, isZero, isAccount, isContract, isDays, isPrice, isBasis, lastDue}
+use Rattle.units.specs.Ranges.{within, isZero, isAccount, isContract, isDays, isPrice, isBasis, isWeight, isPremium, lastDue}
 use Rattle.zone.specs.declared.Record.{Record}
+
+-- what a registered receipt has in every state: one of the eight, an owner, a weight and a premium (01 Image 8, 02 2/12)
+abbrev pub keptOk : Record → Bool
+keptOk r = leb (r .state) 7 && isAccount (r .owner) && isWeight (r .weight .0) && isPremium (r .premium .0)
 
 -- the fields of a listing are filled
 abbrev pub listingFits : Record → Bool

@@ -4,8 +4,8 @@ ghost use mathlib.Core.Bool.{true, _&&_};
 ghost use Prim.Native.Nat.{_≤_};
 ghost use Rattle.units.specs.Ranges.{mostWeight};
 ghost use Rattle.zone.specs.Held.{full, holdOf};
-ghost use Rattle.zone.specs.Valid.{blank, listingOk, bidOk, dueOk, ownerOk, invoicesWithin, noInvoicesOk, fieldsOk, recordValid, askOk};
-ghost use Rattle.validity.specs.ByState.{listingFits, listingZero, bidFits, bidZero, dueFits, buyerFits};
+ghost use Rattle.zone.specs.Valid.{invoicesWithin, noInvoicesOk, fieldsOk, recordValid, askOk};
+ghost use Rattle.validity.specs.ByState.{keptOk, listingFits, listingZero, bidFits, bidZero, dueFits, buyerFits};
 use units::Fen;
 use units::LAST_DUE;
 use units::YuanPerTonne;
@@ -13,32 +13,20 @@ use zone::Hold;
 use zone::Record;
 use zone::STATE_BID_STANDS;
 use zone::STATE_FIRST_PAID;
-use zone::STATE_IDLE;
-use zone::STATE_LISTED;
 use zone::STATE_LODGED;
 use zone::STATE_PENALTY_DUE;
 use zone::STATE_SETTLED;
-use zone::STATE_STRUCK;
 
-// ── One record ──────────────────────────────────────────────────────────────────────────────────
+// ── Fields ──────────────────────────────────────────────────────────────────────────────────────
 
-fn is_blank(r: Record) -> bool
-    ensures { λ x. ⌜ x ≡ blank r ⌝ }
+// State, owner, weight and premium, which every registered receipt has.
+pub fn kept_ok(r: Record) -> bool
+    ensures { λ x. ⌜ x ≡ keptOk r ⌝ }
 {
-    (r.owner == 0)
-        & (r.state == STATE_IDLE)
-        & (r.seller == 0)
-        & (r.buyer == 0)
-        & (r.contract == 0)
-        & (r.days == 0)
-        & (r.due == 0)
-        & (r.weight.0 == 0)
-        & (r.price.0 == 0)
-        & (r.pending.0 == 0)
-        & (r.confirmed.0 == 0)
-        & (r.paid.0 == 0)
-        & units::is_zero(r.basis.0)
-        & units::is_zero(r.premium.0)
+    (r.state <= STATE_PENALTY_DUE)
+        & units::is_account(r.owner)
+        & units::is_weight(r.weight.0)
+        & units::is_premium(r.premium.0)
 }
 
 // Seller, contract, D and basis are a listing's.
@@ -91,50 +79,10 @@ fn buyer_fits(r: Record) -> bool
     units::is_account(r.buyer) & (r.price.0 == 0) & !(r.buyer == r.seller)
 }
 
-// State by state: only the tests that the state asks for.
-fn state_ok(r: Record) -> bool
-    requires { ⌜ r .state ≤ 7 ⌝ }
-    ensures { λ x. ⌜ x ≡ listingOk r && bidOk r && dueOk r && ownerOk r ⌝ }
-{
-    let s = r.state;
-    match s {
-        STATE_IDLE => (r.seller == 0) & listing_is_zero(r) & bid_is_zero(r) & (r.due == 0),
-        STATE_LISTED => listing_fits(r) & bid_is_zero(r) & (r.due == 0) & (r.owner == r.seller),
-        STATE_BID_STANDS => listing_fits(r) & bid_fits(r) & (r.due == 0) & (r.owner == r.seller),
-        STATE_STRUCK | STATE_LODGED => listing_fits(r)
-            & bid_fits(r)
-            & due_fits(r)
-            & (r.owner == r.seller),
-        STATE_SETTLED | STATE_FIRST_PAID => listing_fits(r)
-            & bid_fits(r)
-            & due_fits(r)
-            & (r.owner == r.buyer),
-        _ => {
-            units::is_account(r.seller)
-                & listing_is_zero(r)
-                & buyer_fits(r)
-                & due_fits(r)
-                & (r.owner == r.seller)
-        }
-    }
-}
-
 fn no_invoices_ok(r: Record) -> bool
     ensures { λ x. ⌜ x ≡ noInvoicesOk r ⌝ }
 {
     (r.pending.0 == 0) & (r.confirmed.0 == 0) & (r.paid.0 == 0)
-}
-
-fn fields_ok(r: Record) -> bool
-    ensures { λ x. ⌜ x ≡ fieldsOk r ⌝ }
-{
-    if !((r.state <= STATE_PENALTY_DUE)
-        & units::is_account(r.owner)
-        & units::is_weight(r.weight.0)
-        & units::is_premium(r.premium.0)) {
-        return false;
-    }
-    state_ok(r)
 }
 
 pub fn full_of(r: Record) -> Fen
@@ -168,19 +116,68 @@ fn invoices_within(r: Record) -> bool
     (sum + pending <= all) & units::is_paid_so_far(full, confirmed, paid)
 }
 
-pub fn record_ok(r: Record) -> bool
+// ── One record, by its state ────────────────────────────────────────────────────────────────────
+
+// Each of these judges a record in its state that `kept_ok` has passed. They are apart so that whoever reads a record out of an image
+// reads, once it knows the state, only the fields that the state's tests need.
+
+pub fn idle_ok(r: Record) -> bool
+    requires { ⌜ (keptOk r ≡ true) × (r .state ≡ 0) ⌝ }
     ensures { λ x. ⌜ x ≡ recordValid r ⌝ }
 {
-    if r.owner == 0 {
-        return is_blank(r);
-    }
-    if !fields_ok(r) {
+    (r.seller == 0) & listing_is_zero(r) & bid_is_zero(r) & (r.due == 0) & no_invoices_ok(r)
+}
+
+pub fn listed_ok(r: Record) -> bool
+    requires { ⌜ (keptOk r ≡ true) × (r .state ≡ 1) ⌝ }
+    ensures { λ x. ⌜ x ≡ recordValid r ⌝ }
+{
+    listing_fits(r) & bid_is_zero(r) & (r.due == 0) & (r.owner == r.seller) & no_invoices_ok(r)
+}
+
+pub fn bid_stands_ok(r: Record) -> bool
+    requires { ⌜ (keptOk r ≡ true) × (r .state ≡ 2) ⌝ }
+    ensures { λ x. ⌜ x ≡ recordValid r ⌝ }
+{
+    listing_fits(r) & bid_fits(r) & (r.due == 0) & (r.owner == r.seller) & no_invoices_ok(r)
+}
+
+// Struck, or lodged.
+pub fn struck_ok(r: Record) -> bool
+    requires { ⌜ (keptOk r ≡ true) × (3 ≤ r .state) × (r .state ≤ 4) ⌝ }
+    ensures { λ x. ⌜ x ≡ recordValid r ⌝ }
+{
+    listing_fits(r) & bid_fits(r) & due_fits(r) & (r.owner == r.seller) & no_invoices_ok(r)
+}
+
+pub fn settled_ok(r: Record) -> bool
+    requires { ⌜ (keptOk r ≡ true) × (r .state ≡ 5) ⌝ }
+    ensures { λ x. ⌜ x ≡ recordValid r ⌝ }
+{
+    listing_fits(r) & bid_fits(r) & due_fits(r) & (r.owner == r.buyer) & no_invoices_ok(r)
+}
+
+// The invoices last: what they are tested against is paid at most in full, and that is known of a bid that fits.
+pub fn first_paid_ok(r: Record) -> bool
+    requires { ⌜ (keptOk r ≡ true) × (r .state ≡ 6) ⌝ }
+    ensures { λ x. ⌜ x ≡ recordValid r ⌝ }
+{
+    if !(listing_fits(r) & bid_fits(r) & due_fits(r) & (r.owner == r.buyer)) {
         return false;
     }
-    if r.state == STATE_FIRST_PAID {
-        return invoices_within(r);
-    }
-    no_invoices_ok(r)
+    invoices_within(r)
+}
+
+pub fn penalty_due_ok(r: Record) -> bool
+    requires { ⌜ (keptOk r ≡ true) × (r .state ≡ 7) ⌝ }
+    ensures { λ x. ⌜ x ≡ recordValid r ⌝ }
+{
+    units::is_account(r.seller)
+        & listing_is_zero(r)
+        & buyer_fits(r)
+        & due_fits(r)
+        & (r.owner == r.seller)
+        & no_invoices_ok(r)
 }
 
 pub fn ask_ok(ask: YuanPerTonne) -> bool

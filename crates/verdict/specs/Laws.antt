@@ -1,3 +1,5 @@
+pub mod Sums
 pub mod Turns
 pub mod Verdict
+pub mod Walk
 pub mod Zeros

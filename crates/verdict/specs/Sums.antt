@@ -1,30 +1,65 @@
--- What the code computes on the way to the verdict: what the lots hold from each account, and the test of the frozen money by it.
--- Laws/ shows that the verdict is the definition's. No promise of a public function cites it.
+-- What the lots hold from each account, from the lots' side, and the test of an image that goes by these sums (02 4/12).
 -- Assumes nothing.
-use mathlib.Core.Bool.{Bool, true, _&&_}
-use mathlib.Core.List.{List, [], _∷_}
-use Prim.Native.Nat.{ℕ, suc, _+_}
-use lib.Dec.{eqb}
-use lib.ListN.{getD}
-use Rattle.units.specs.Ranges.{accountCount}
+use mathlib.Core.Bool.{Bool, true, cond, _&&_}
+use mathlib.Core.List.{List, [], _∷_, map}
+use Prim.Native.Nat.{ℕ, zero, suc, _+_}
+use lib.Dec.{eqb, leb}
+use lib.ListN.{length, getD, set, replicate}
+use Rattle.units.specs.declared.Fen.{Fen}
+use Rattle.units.specs.Payments.{fen}
+use Rattle.units.specs.Ranges.{within, accountCount, lastDay, moneyLimit}
 use Rattle.zone.specs.declared.Account.{Account}
+use Rattle.zone.specs.declared.Hold.{Hold}
 use Rattle.zone.specs.declared.Record.{Record}
-use Rattle.zone.specs.Held.{heldSum}
-use Rattle.image.specs.Table.{table}
-use Rattle.image.specs.Layout.{receiptRun, recordIn}
+use Rattle.zone.specs.Held.{holdOf, allMoney}
+use Rattle.zone.specs.Valid.{all, askOk, recordValid}
+use Rattle.image.specs.Layout.{imageLength, headerOk, dayIn, totalIn, asksIn, accountsIn, recordsIn}
 
--- the first n records of an image
-abbrev pub firstRecords : ℕ → List ℕ → List Record
-firstRecords n s = table n (λ k. recordIn (receiptRun s k))
+-- ── The sums (02 4/12) ─────────────────────────────────────────────────────────────────────────
 
--- the sums of all places, of which the first is nobody's
-unfoldable pub heldSums : List Record → List ℕ
-heldSums rs = table (accountCount + 1) (λ x. heldSum (λ r. r) x rs)
+-- nothing, from nobody
+abbrev pub noHold : Hold
+noHold = record { from = 0; fen = fen 0 }
 
--- from place x on, each account's frozen is its sum
-unfoldable pub frozenFrom : ℕ → List Account → List ℕ → Bool
-frozenFrom x [] sums = true
-frozenFrom x (a ∷ l) sums = eqb (a .frozen .0) (getD sums x 0) && frozenFrom (suc x) l sums
+-- what a record's lot holds, and from whom; a record that is not valid holds nothing
+unfoldable pub validHold : Record → Hold
+validHold r = cond (recordValid r) (holdOf r) noHold
 
-abbrev pub frozenMatches : List Account → List ℕ → Bool
-frozenMatches l sums = frozenFrom 1 l sums
+-- n more in the sum of account a. The sum of account 1 stands at place 0 and so on; nobody, number 0, has none.
+unfoldable pub addTo : ℕ → ℕ → List Fen → List Fen
+addTo zero n sums = sums
+addTo (suc p) n sums = set sums p (fen (getD sums p (fen 0) .0 + n))
+
+-- one sum for each account, all zero
+abbrev pub noSums : List Fen
+noSums = replicate accountCount (fen 0)
+
+-- the sums of all accounts by one walk over records, each of which adds what `holds` says of it to the account that it names
+unfoldable pub sumsBy : (Record → Hold) → List Record → List Fen
+sumsBy holds [] = noSums
+sumsBy holds (r ∷ rs) = addTo (holds r .from) (holds r .fen .0) (sumsBy holds rs)
+
+-- what the lots of an image hold from each account
+abbrev pub frozenSums : List ℕ → List Fen
+frozenSums s = sumsBy validHold (recordsIn s)
+
+-- which records of an image are valid
+abbrev pub validRecords : List ℕ → List Bool
+validRecords s = map recordValid (recordsIn s)
+
+-- ── The test by the sums (02 4/12) ─────────────────────────────────────────────────────────────
+
+-- the frozen money of each account is its sum; the accounts stand from place p on
+unfoldable pub frozenFrom : ℕ → List Account → List Fen → Bool
+frozenFrom p [] sums = true
+frozenFrom p (a ∷ l) sums = eqb (a .frozen .0) (getD sums p (fen 0) .0) && frozenFrom (suc p) l sums
+
+-- records, frozen money by the sums, and a total that is all money
+abbrev pub booksBySums : List ℕ → ℕ → Bool
+booksBySums s total = all recordValid (recordsIn s) && frozenFrom 0 (accountsIn s) (frozenSums s) && eqb total (allMoney (accountsIn s))
+
+-- whether bytes are a valid image, by the sums
+unfoldable pub validBySums : List ℕ → Bool
+validBySums s =
+    eqb (length s) imageLength && headerOk s && within 1 lastDay (dayIn s) && all askOk (asksIn s) && booksBySums s (totalIn s)
+    && leb (totalIn s) moneyLimit

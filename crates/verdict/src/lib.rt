@@ -1,16 +1,15 @@
-// Whether bytes are a valid image.
+// What the lots of an image hold from each account, and whether bytes are a valid image.
 ghost use mathlib.Core.Path.{_≡_};
-ghost use mathlib.Core.Bool.{true, _&&_};
-ghost use mathlib.Core.List.{[]};
-ghost use Prim.Native.Nat.{_+_, _≤_, _<_};
-ghost use lib.Dec.{eqb};
-ghost use lib.ListN.{length};
-ghost use Rattle.units.specs.Ranges.{accountCount, receiptCount, moneyLimit};
-ghost use Rattle.zone.specs.Held.{allMoney};
-ghost use Rattle.zone.specs.Valid.{recordValid, askOk, all};
-ghost use Rattle.image.specs.Layout.{imageLength, receiptLength, headerOk, receiptRun, recordIn, asksIn, accountsIn, recordsIn};
+ghost use mathlib.Core.Bool.{true};
+ghost use mathlib.Core.Logic.{_≢_};
+ghost use Prim.Native.Nat.{_≤_, _<_};
+ghost use lib.ListN.{length, replicate};
+ghost use Rattle.units.specs.Ranges.{receiptCount, moneyLimit};
+ghost use Rattle.zone.specs.Valid.{blank, recordValid, askOk, all};
+ghost use Rattle.image.specs.Layout.{imageLength, receiptLength, headerOk, receiptRun, recordIn, asksIn};
 ghost use Rattle.image.specs.Image.{validImage};
-ghost use Rattle.verdict.specs.Sums.{firstRecords, heldSums, frozenMatches};
+ghost use Rattle.verdict.specs.Sums.{noHold, validHold, frozenSums, validRecords, booksBySums};
+ghost use Rattle.verdict.specs.Walk.{BlankFrom, marked};
 use image::ACCOUNT_COUNT_PLACE;
 use image::ACCOUNT_START_PLACE;
 use image::CONTRACT_COUNT_PLACE;
@@ -30,15 +29,18 @@ use image::RECEIPT_START;
 use image::RECEIPT_START_PLACE;
 use units::ACCOUNTS;
 use units::CONTRACTS;
+use units::Fen;
 use units::LAST_DAY;
 use units::MONEY_LIMIT;
 use units::RECEIPTS;
-
-// One place for each account, and place 0 for nobody.
-const PLACES: usize = ACCOUNTS + 1;
-
-// 2^50, above the limit of all money. Amounts are added up below and above it apart, so that no content of an image wraps a sum.
-const PART: u64 = 1125899906842624;
+use zone::Hold;
+use zone::STATE_BID_STANDS;
+use zone::STATE_FIRST_PAID;
+use zone::STATE_IDLE;
+use zone::STATE_LISTED;
+use zone::STATE_LODGED;
+use zone::STATE_SETTLED;
+use zone::STATE_STRUCK;
 
 // The zero bytes behind the phase.
 const FIRST_ZERO: usize = PHASE_PLACE + 1;
@@ -87,11 +89,11 @@ fn owner_at(image: &[u8], k: usize) -> u8
     image[RECEIPT_START + k * RECEIPT_LENGTH]
 }
 
-// A record without an owner is valid if it is all zeros. Eight bytes are read at a time, the premium by itself: quicker than field by
+// A receipt that nobody has registered is zero in all its bytes. Eight are read at a time, the premium by itself: quicker than field by
 // field.
 fn all_zero(s: &[u8]) -> bool
-    requires { ⌜ (length (now s) ≡ receiptLength) × (recordIn (now s) .owner ≡ 0) ⌝ }
-    ensures { λ r. ⌜ r ≡ recordValid (recordIn (now (s .entry))) ⌝ }
+    requires { ⌜ length (now s) ≡ receiptLength ⌝ }
+    ensures { λ r. ⌜ r ≡ blank (recordIn (now (s .entry))) ⌝ }
 {
     (wire::get_u64(s, 0) == 0)
         & (wire::get_u64(s, 8) == 0)
@@ -101,67 +103,141 @@ fn all_zero(s: &[u8]) -> bool
 }
 
 fn blank_at(image: &[u8], k: usize) -> bool
-    requires { ⌜ (length (now image) ≡ imageLength) × (k < receiptCount) × (recordIn (receiptRun (now image) k) .owner ≡ 0) ⌝ }
-    ensures { λ r. ⌜ r ≡ recordValid (recordIn (receiptRun (now (image .entry)) k)) ⌝ }
+    requires { ⌜ (length (now image) ≡ imageLength) × (k < receiptCount) ⌝ }
+    ensures { λ r. ⌜ r ≡ blank (recordIn (receiptRun (now (image .entry)) k)) ⌝ }
 {
     let at = RECEIPT_START + k * RECEIPT_LENGTH;
     let end = at + RECEIPT_LENGTH;
     all_zero(&image[at..end])
 }
 
-// Whether record k is valid; if so, what its lot holds is added to the sum of its account.
-fn judge_record(image: &[u8], k: usize, sums: &mut [u64]) -> bool
-    requires { ⌜ (length (now image) ≡ imageLength) × (k < receiptCount) × (all recordValid (firstRecords k (now image)) ≡ true) × (now sums ≡ heldSums (firstRecords k (now image))) ⌝ }
-    ensures { λ r. ⌜ (r ≡ recordValid (recordIn (receiptRun (now (image .entry)) k))) × (r ≡ true → now (sums .exit) ≡ heldSums (firstRecords (k + 1) (now (image .entry)))) ⌝ }
+// Nobody has registered a receipt from here on. Where numbers are given from the front, most of an idle zone lies there, and a loop of
+// its own passes over it quicker than the walk.
+fn registered_end(image: &[u8]) -> usize
+    requires { ⌜ length (now image) ≡ imageLength ⌝ }
+    ensures { λ r. ⌜ (r ≤ receiptCount) × BlankFrom (now (image .entry)) r ⌝ }
 {
-    if owner_at(image, k) == 0 {
-        return blank_at(image, k);
+    let mut k: usize = RECEIPTS;
+    while 0 < k {
+        if !blank_at(image, k - 1) {
+            return k;
+        }
+        k -= 1;
     }
-    let r = image::record_at(image, k);
-    if !validity::record_ok(r) {
+    0
+}
+
+// Whether the record of a registered receipt is valid. Each state reads the record anew, so that only what it tests is loaded: with the
+// whole record at hand for all states, the registers do not suffice.
+fn registered_ok(image: &[u8], k: usize) -> bool
+    requires { ⌜ (length (now image) ≡ imageLength) × (k < receiptCount) × (recordIn (receiptRun (now image) k) .owner ≢ 0) ⌝ }
+    ensures { λ r. ⌜ r ≡ recordValid (recordIn (receiptRun (now (image .entry)) k)) ⌝ }
+{
+    if !validity::kept_ok(image::record_at(image, k)) {
         return false;
     }
-    let h = validity::hold_of(r);
-    let from = h.from as usize;
-    sums[from] = sums[from] + h.fen.0;
-    true
+    let s = image::state_at(image, k);
+    match s {
+        STATE_IDLE => validity::idle_ok(image::record_at(image, k)),
+        STATE_LISTED => validity::listed_ok(image::record_at(image, k)),
+        STATE_BID_STANDS => validity::bid_stands_ok(image::record_at(image, k)),
+        STATE_STRUCK => validity::struck_ok(image::record_at(image, k)),
+        STATE_LODGED => validity::struck_ok(image::record_at(image, k)),
+        STATE_SETTLED => validity::settled_ok(image::record_at(image, k)),
+        STATE_FIRST_PAID => validity::first_paid_ok(image::record_at(image, k)),
+        _ => validity::penalty_due_ok(image::record_at(image, k)),
+    }
 }
 
-// One walk over the records, up to one that is not valid: whether all are, and what the lots hold from each account. Place 0 of the
-// sums is nobody's.
-fn judge_records(image: &[u8], sums: &mut [u64]) -> bool
-    requires { ⌜ (length (now image) ≡ imageLength) × (now sums ≡ heldSums []) ⌝ }
-    ensures { λ r. ⌜ (r ≡ all recordValid (recordsIn (now (image .entry)))) × (r ≡ true → now (sums .exit) ≡ heldSums (recordsIn (now (image .entry)))) ⌝ }
+// ── What the lots hold ──────────────────────────────────────────────────────────────────────────
+
+fn no_hold() -> Hold
+    ensures { λ r. ⌜ r ≡ noHold ⌝ }
 {
+    Hold {
+        from: 0,
+        fen: Fen(0),
+    }
+}
+
+// What the lot of record k holds. A record that is not valid holds nothing and loses its mark. Marks are written for such records alone:
+// a flag for all of them, carried through the walk, costs it an eighth of its time.
+fn hold_at(image: &[u8], k: usize, valid: &mut [bool]) -> Hold
+    requires { ⌜ (length (now image) ≡ imageLength) × (k < receiptCount) × (length (now valid) ≡ receiptCount) ⌝ }
+    ensures { λ r. ⌜ (r ≡ validHold (recordIn (receiptRun (now (image .entry)) k))) × (now (valid .exit) ≡ marked (now (valid .entry)) k (recordValid (recordIn (receiptRun (now (image .entry)) k)))) ⌝ }
+{
+    if owner_at(image, k) == 0 {
+        if blank_at(image, k) {
+            return no_hold();
+        }
+        valid[k] = false;
+        return no_hold();
+    }
+    if !registered_ok(image, k) {
+        valid[k] = false;
+        return no_hold();
+    }
+    validity::hold_of(image::record_at(image, k))
+}
+
+// What the lots hold from each account: one walk over them, from the last to the first, each adding to the account that it names. Of a
+// record that is not valid nothing is added, and its mark is taken away.
+pub fn frozen_sums(image: &[u8], valid: &mut [bool]) -> [Fen; ACCOUNTS]
+    requires { ⌜ (length (now image) ≡ imageLength) × (now valid ≡ replicate receiptCount true) ⌝ }
+    ensures { λ r. ⌜ (r ≡ frozenSums (now (image .entry))) × (now (valid .exit) ≡ validRecords (now (image .entry))) ⌝ }
+{
+    let mut sums: [Fen; ACCOUNTS] = [Fen(0); ACCOUNTS];
+    let mut i: usize = registered_end(image);
+    while 0 < i {
+        i -= 1;
+        let h = hold_at(image, i, valid);
+        let from = h.from as usize;
+        if from != 0 {
+            let place = from - 1;
+            sums[place] = Fen(sums[place].0 + h.fen.0);
+        }
+    }
+    sums
+}
+
+// ── The verdict ─────────────────────────────────────────────────────────────────────────────────
+
+fn all_set(marks: &[bool]) -> bool
+    requires { ⌜ length (now marks) ≡ receiptCount ⌝ }
+    ensures { λ r. ⌜ r ≡ all (λ b. b) (now (marks .entry)) ⌝ }
+{
+    let mut ok = true;
     let mut i: usize = 0;
     while i < RECEIPTS {
-        if !judge_record(image, i, sums) {
-            return false;
-        }
+        ok = ok & marks[i];
         i += 1;
     }
-    true
+    ok
 }
 
-// ── The accounts ────────────────────────────────────────────────────────────────────────────────
-
-// Whether each frozen is what the lots hold from that account, and the total is all money.
-fn accounts_ok(image: &[u8], sums: &[u64], total: u64) -> bool
-    requires { ⌜ (length (now image) ≡ imageLength) × (length (now sums) ≡ accountCount + 1) × (total ≤ moneyLimit) ⌝ }
-    ensures { λ r. ⌜ r ≡ frozenMatches (accountsIn (now (image .entry))) (now (sums .entry)) && eqb total (allMoney (accountsIn (now (image .entry)))) ⌝ }
+// Whether the records are valid, each frozen is what the lots hold from that account, and the total is all money. No account may have more
+// free money than all together, so that no sum wraps.
+fn books_ok(image: &[u8], total: u64) -> bool
+    requires { ⌜ (length (now image) ≡ imageLength) × (total ≤ moneyLimit) ⌝ }
+    ensures { λ r. ⌜ r ≡ booksBySums (now (image .entry)) total ⌝ }
 {
-    let mut frozen = true;
-    let mut low: u64 = 0;
-    let mut high: u64 = 0;
+    let mut valid: [bool; RECEIPTS] = [true; RECEIPTS];
+    let sums = frozen_sums(image, &mut valid);
+    if !all_set(&valid) {
+        return false;
+    }
+    let mut money: u64 = 0;
     let mut i: usize = 0;
     while i < ACCOUNTS {
         let a = image::account_at(image, i);
-        frozen = frozen & (a.frozen.0 == sums[i + 1]);
-        low += a.free.0 % PART + a.frozen.0 % PART;
-        high += a.free.0 / PART + a.frozen.0 / PART;
+        let held = sums[i].0;
+        if (MONEY_LIMIT < a.free.0) | (a.frozen.0 != held) {
+            return false;
+        }
+        money += a.free.0 + held;
         i += 1;
     }
-    frozen & (high == 0) & (low == total)
+    total == money
 }
 
 // The verdict on any bytes.
@@ -175,14 +251,6 @@ pub fn image_ok(image: &[u8]) -> bool
     if MONEY_LIMIT < total {
         return false;
     }
-    let mut sums: [u64; PLACES] = [0; PLACES];
-    if !judge_records(image, &mut sums) {
-        return false;
-    }
     let day = image::day_in(image);
-    header_ok(image)
-        & (1 <= day)
-        & (day <= LAST_DAY)
-        & asks_ok(image)
-        & accounts_ok(image, &sums, total)
+    header_ok(image) & (1 <= day) & (day <= LAST_DAY) & asks_ok(image) & books_ok(image, total)
 }

@@ -1,6 +1,6 @@
--- Where the bytes are zeros the record is valid, and where it is valid they are zeros (Laws/Zeros).
+-- The wide reads are zero where the fields are (Laws/Zeros).
 use denote.Ref.{now}
-use Rattle.verdict.specs.Laws.Zeros.{zeros-valid}
+use Rattle.verdict.specs.Laws.Zeros.{zeros-test}
 use borrow.Author.Needs.{needs}
 use Rattle.verdict.proofs.all_zero.Statement.{statement}
 use Rattle.verdict.proofs.all_zero.Tie as tie
@@ -23,7 +23,7 @@ get-u32-requires c κs = search needs
 returns : tie.Need-returns
 returns c =
     rw (c .before .before .before .before .get-u64 .ensures, c .before .before .before .get-u642 .ensures, c .before .before .get-u643 .ensures, c .before .get-u644 .ensures, c .get-u32 .ensures)
-    (zeros-valid (now (c .before .before .before .before .before .before .args .s)) (λ k. c .before .before .before .before .before .shared-slice-known .given k .fits) (c .before .before .before .before .before .before .pre .1))
+    (zeros-test (now (c .before .before .before .before .before .before .args .s)) (λ k. c .before .before .before .before .before .shared-slice-known .given k .fits))
 
 pub all-zero-spec : {M : Type 1} → statement M
 all-zero-spec =

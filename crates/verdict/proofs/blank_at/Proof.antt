@@ -3,7 +3,7 @@ use mathlib.Core.Path.{ap, _∙_}
 use mathlib.Core.List.{List}
 use Prim.Native.Nat.{ℕ, _+_, _*_}
 use denote.Ref.{now}
-use Rattle.zone.specs.Valid.{recordValid}
+use Rattle.zone.specs.Valid.{blank}
 use Rattle.image.specs.Layout.{receiptLength, receiptStart, recordIn}
 use Rattle.image.specs.Laws.Table.{part-wide}
 use borrow.Author.Needs.{needs}
@@ -29,13 +29,12 @@ part-all-zero-end : tie.Need-part-all-zero-end
 part-all-zero-end c = search needs
 
 all-zero-requires : tie.Need-all-zero-requires
-all-zero-requires c κs =
-    (search needs, ap (λ (b : List ℕ). recordIn b .owner) (part-wide (receiptStart + c .before .before .args .k * receiptLength) receiptLength (now (c .before .before .args .image))) ∙ c .before .before .pre .2)
+all-zero-requires c κs = search needs
 
 returns : tie.Need-returns
 returns c =
     c .all-zero .ensures
-    ∙ ap (λ (b : List ℕ). recordValid (recordIn b)) (part-wide (receiptStart + c .before .before .before .args .k * receiptLength) receiptLength (now (c .before .before .before .args .image)))
+    ∙ ap (λ (b : List ℕ). blank (recordIn b)) (part-wide (receiptStart + c .before .before .before .args .k * receiptLength) receiptLength (now (c .before .before .before .args .image)))
 
 pub blank-at-spec : {M : Type 1} → statement M
 blank-at-spec =

@@ -1,18 +1,23 @@
 -- One turn of each of the loops that read an image: a test of all, sums, and the frozen test, with one element more at the end.
 -- Assumes nothing.
-use mathlib.Core.Bool.{Bool, false, _&&_, and-true, and-false, and-assoc}
+use mathlib.Core.Bool.{Bool, true, false, not, _&&_, _||_, and-true, and-false, and-assoc, true≢false, false≢true}
 use mathlib.Core.List.{List, [], _∷_, _++_}
-use mathlib.Core.Path.{_≡_, sym, ap, _∙_}
-use Prim.Native.Nat.{ℕ, zero, suc, _+_, _<_}
+use mathlib.Core.Logic.{_≢_}
+use mathlib.Core.Path.{_≡_, refl, sym, ap, _∙_}
+use Prim.Native.Nat.{ℕ, zero, suc, _+_, _≤_, _<_}
 use native.Mathlib.Decide.{ℕ-discrete}
 use native.Mathlib.Omega.{arith}
-use lib.Dec.{eqb}
+use borrow.Author.Tests.{eq-eqb, ne-eqb, eqb-true, ltb-true, ltb-false}
+use lib.Dec.{eqb, ltb}
 use lib.ListN.{length, getD}
+use Rattle.units.specs.declared.Fen.{Fen}
+use Rattle.units.specs.Payments.{fen}
+use Rattle.units.specs.Ranges.{moneyLimit}
 use Rattle.zone.specs.declared.Account.{Account}
-use Rattle.zone.specs.declared.Record.{Record}
-use Rattle.zone.specs.Held.{heldFrom, heldSum, allMoney}
+use Rattle.zone.specs.Held.{allMoney}
 use Rattle.zone.specs.Valid.{all}
 use Rattle.image.specs.Table.{table}
+use Rattle.image.specs.Laws.Table.{length-table}
 use Rattle.verdict.specs.Sums.{frozenFrom}
 
 module _ {A : Type 0} (p : A → Bool) where
@@ -36,16 +41,75 @@ unfolding allMoney
 money-one [] a = omega arith
 money-one (b ∷ l) a = rw (money-one l a) (omega arith)
 
-pub held-one : (x : ℕ) (rs : List Record) (r : Record) → heldSum (λ r. r) x (rs ++ (r ∷ [])) ≡ heldSum (λ r. r) x rs + heldFrom x r
-unfolding heldSum
-held-one x [] r = omega arith
-held-one x (q ∷ rs) r = rw (held-one x rs r) (omega arith)
-
 -- the frozen test, with the account at the next place
-pub frozen-one : (x : ℕ) (l : List Account) (a : Account) (sums : List ℕ) →
-    frozenFrom x (l ++ (a ∷ [])) sums ≡ frozenFrom x l sums && eqb (a .frozen .0) (getD sums (x + length l) 0)
+pub frozen-one : (p : ℕ) (l : List Account) (a : Account) (sums : List Fen) →
+    frozenFrom p (l ++ (a ∷ [])) sums ≡ frozenFrom p l sums && eqb (a .frozen .0) (getD sums (p + length l) (fen 0) .0)
 unfolding frozenFrom
-frozen-one x [] a sums = let e : x + 0 ≡ x = omega arith in rw (and-true, e)
-frozen-one x (b ∷ l) a sums =
-    let e : suc x + length l ≡ x + suc (length l) = omega arith in
-    rw (frozen-one (suc x) l a sums, and-assoc, e)
+frozen-one p [] a sums = let e : p + 0 ≡ p = omega arith in rw (and-true, e)
+frozen-one p (b ∷ l) a sums =
+    let e : suc p + length l ≡ p + suc (length l) = omega arith in
+    rw (frozen-one (suc p) l a sums, and-assoc, e)
+
+-- one account whose frozen money is not its sum
+pub frozen-not : (n : ℕ) (f : ℕ → Account) (sums : List Fen) (k : ℕ) → k < n → f k .frozen .0 ≢ getD sums k (fen 0) .0 →
+    frozenFrom 0 (table n f) sums ≡ false
+unfolding table
+frozen-not zero f sums k h o = absurd (omega arith)
+frozen-not (suc n) f sums k h o =
+    frozen-one 0 (table n f) (f n) sums ∙ go (ℕ-discrete k n) (λ l. frozen-not n f sums k l o)
+  where
+    before : Bool
+    before = frozenFrom 0 (table n f) sums
+
+    place : 0 + length (table n f) ≡ n
+    place = omega (arith, length-table n f)
+
+    test : ℕ → Bool
+    test i = eqb (f n .frozen .0) (getD sums i (fen 0) .0)
+
+    go : Dec (k ≡ n) → (k < n → before ≡ false) → before && test (0 + length (table n f)) ≡ false
+    go (yes q) ih = rw (place, ne-eqb _ _ (rw q at o), and-false)
+    go (no q) ih = rw (ih (omega arith))
+
+-- the free money of one account is part of all money
+pub free-part : (n : ℕ) (f : ℕ → Account) (k : ℕ) → k < n → f k .free .0 ≤ allMoney (table n f)
+unfolding table
+free-part zero f k h = absurd (omega arith)
+free-part (suc n) f k h = rw (money-one (table n f) (f n)) (go (ℕ-discrete k n) (free-part n f k))
+  where
+    go : Dec (k ≡ n) → (k < n → f k .free .0 ≤ allMoney (table n f)) → f k .free .0 ≤ allMoney (table n f) + f n .free .0 + f n .frozen .0
+    go (yes q) ih = rw q (omega arith)
+    go (no q) ih = omega (arith, ih (omega arith))
+
+-- ── One account's test ─────────────────────────────────────────────────────────────────────────
+
+-- more free money than there may be in all, or a frozen sum that is another
+abbrev pub refused : Account → ℕ → Bool
+refused a held = ltb moneyLimit (a .free .0) || not (eqb (a .frozen .0) held)
+
+-- an account that is refused: the books of all are not kept
+pub account-refused : (n : ℕ) (f : ℕ → Account) (sums : List Fen) (total k : ℕ) → k < n → total ≤ moneyLimit → refused (f k) (getD sums k (fen 0) .0) ≡ true →
+    frozenFrom 0 (table n f) sums && eqb total (allMoney (table n f)) ≡ false
+account-refused n f sums total k h t r = go (ltb moneyLimit (f k .free .0)) refl
+  where
+    frozen : Bool
+    frozen = frozenFrom 0 (table n f) sums
+
+    go : (b : Bool) → ltb moneyLimit (f k .free .0) ≡ b → frozen && eqb total (allMoney (table n f)) ≡ false
+    go true e =
+        let m = free-part n f k h in
+        rw (ne-eqb total (allMoney (table n f)) (λ z. omega (arith, m, ltb-true moneyLimit (f k .free .0) e)), and-false)
+    go false e = rw (frozen-not n f sums k h (λ z. false≢true (rw (e, eq-eqb _ _ z) at r)))
+
+-- what the test tells of an account that passes it
+pub record Passed (a : Account) (held : ℕ) : Type 0 where
+  pub free : a .free .0 ≤ moneyLimit
+  pub frozen : a .frozen .0 ≡ held
+
+pub account-passed : (a : Account) (held : ℕ) → refused a held ≡ false → Passed a held
+account-passed a held r = go (ltb moneyLimit (a .free .0)) refl (eqb (a .frozen .0) held) refl
+  where
+    go : (b : Bool) → ltb moneyLimit (a .free .0) ≡ b → (d : Bool) → eqb (a .frozen .0) held ≡ d → Passed a held
+    go true e d g = absurd (true≢false (rw e at r))
+    go false e true g = record { free = ltb-false moneyLimit (a .free .0) e; frozen = eqb-true _ _ g }
+    go false e false g = absurd (true≢false (rw (e, g) at r))

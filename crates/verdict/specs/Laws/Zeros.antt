@@ -1,4 +1,4 @@
--- A record without an owner is valid where its bytes, read by eight and the last four, are zeros.
+-- A record is blank where its bytes, read by eight and the last four, are zeros.
 -- Assumes nothing.
 use mathlib.Core.Bool.{Bool, true, false, _&&_}
 use mathlib.Core.List.{List}
@@ -14,8 +14,8 @@ use Rattle.wire.specs.Laws.Bytes.{leAt-add, leAt-lt}
 use Rattle.wire.specs.Laws.TwosComplement.{bits-signed}
 use Rattle.zone.specs.declared.Record.{Record}
 use Rattle.zone.specs.Record.{recordOf}
-use Rattle.zone.specs.Valid.{recordValid, noReceipt}
-use Rattle.zone.specs.Laws.Facts.{unregistered, none-valid}
+use Rattle.zone.specs.Valid.{blank, noReceipt}
+use Rattle.zone.specs.Laws.Facts.{blank-is, none-blank}
 use Rattle.zone.specs.Laws.Tests.{both, join}
 use Rattle.image.specs.Layout.{premiumPlace, recordIn}
 
@@ -96,8 +96,9 @@ blank-zeros s b e =
     (eq-eqb (leAt 8 s 24) 0 (omega (arith, leAt-add 4 4 s 24))))
     (eq-eqb (leAt 4 s premiumPlace) 0 premium)
 
-pub zeros-valid : (s : List ℕ) → Bytes s → recordIn s .owner ≡ 0 → zeros s ≡ recordValid (recordIn s)
-zeros-valid s b o =
-    same-test (zeros s) (recordValid (recordIn s))
-    (λ h. ap recordValid (zeros-blank s h) ∙ none-valid)
-    (λ v. blank-zeros s b (unregistered (recordIn s) v o))
+-- the wide reads and the test by fields agree on every record
+pub zeros-test : (s : List ℕ) → Bytes s → zeros s ≡ blank (recordIn s)
+zeros-test s b =
+    same-test (zeros s) (blank (recordIn s))
+    (λ h. ap blank (zeros-blank s h) ∙ none-blank)
+    (λ v. blank-zeros s b (blank-is (recordIn s) v))

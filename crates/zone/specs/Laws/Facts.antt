@@ -212,7 +212,8 @@ module _ (r : Record) where
       let n : r .state ≢ 0 = λ e. omega arith in
       false≢true (rw (eq-eqb (r .owner) 0 o, ne-eqb (r .state) 0 n) at h)
 
-  blank-is : blank r ≡ true → r ≡ recordOf noReceipt
+  -- a record whose fields are all zero is that of no receipt
+  pub blank-is : blank r ≡ true → r ≡ recordOf noReceipt
   unfolding blank recordOf
   blank-is h =
       let t1 = both _ _ h in
@@ -251,7 +252,11 @@ module _ (r : Record) where
   unfolding recordValid
   unregistered h o = blank-is (rw (eq-eqb (r .owner) 0 o) at h)
 
--- the other way: the record of no receipt is valid
+-- the other way: the record of no receipt has only zeros, and is valid
+pub none-blank : blank (recordOf noReceipt) ≡ true
+unfolding blank recordOf
+none-blank = refl
+
 pub none-valid : recordValid (recordOf noReceipt) ≡ true
 unfolding recordValid blank recordOf
 none-valid = refl
