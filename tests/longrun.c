@@ -148,6 +148,7 @@ struct making {
 static const struct making filled = {fill_to_limit, count_filled};
 static const struct making stray = {stray_image, count_stray};
 static const struct making damaged = {damage_image, count_damaged};
+static const struct making misplaced = {misplace_held, count_misplaced};
 
 /* both judge a made-up image; the run goes on with the one before */
 static void judge_made_up(const struct making *making)
@@ -275,9 +276,11 @@ static void make_any(void)
         judge_made_up(&stray);
     else if (draw < 120)
         judge_made_up(&damaged);
-    if (draw < 120)
+    else if (draw < 150)
+        judge_made_up(&misplaced);
+    if (draw < 150)
         return;
-    if (draw < 240)
+    if (draw < 270)
         wild_call(&q, library.image);
     else
         sensible_call(&q, library.image);
