@@ -2,7 +2,8 @@
  * Long runs of calls: the library against the plain C ledger of bench/plain.c. Each side has its own image and answer
  * buffer; number, whole image and whole answer are compared after every call. Most calls are sensible ones that carry
  * lots through all states, the others are wild: random bytes, fields out of range, wrong lengths, short answers, and
- * copies of the image with a field out of place. The library's buffers stand between painted bytes or at a wall.
+ * copies of the image with a field out of place or with what a lot holds elsewhere. The library's buffers stand between
+ * painted bytes or at a wall.
  *
  * longrun         all runs, then the tables of what was reached. The last line is 'N passed, M failed': N counts the
  *                 calls that agree and what was reached, M the differences and what was never reached
