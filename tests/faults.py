@@ -18,6 +18,7 @@ programs = {
     "longrun": (sorted(glob.glob("tests/longrun*.c")) + ["tests/lent.c"], []),
     "buffers": (["tests/buffers.c", "tests/lent.c"], as_library),
     "cuts": (["tests/cuts.c"], as_library),
+    "damage": (["tests/damage.c"], []),
 }
 
 
@@ -55,9 +56,9 @@ def seen(program, status, said):
     """By a difference in the program's own words, by one of its tests, or by a wall."""
     if program == "buffers":
         return "seen at a wall" if status == -signal.SIGSEGV else None
-    if program == "cuts":
+    if program in ("cuts", "damage"):
         test = re.search(r"^failed: (.*)", said, re.M)
-        return "seen by cuts: " + test.group(1) if test and status == 1 else None
+        return "seen by %s: %s" % (program, test.group(1)) if test and status == 1 else None
     call = re.search(r"^seed \w+, call (\d+): library", said, re.M)
     return "seen at call " + call.group(1) if call and status == 1 and said.endswith("0 passed, 1 failed\n") else None
 

@@ -2,7 +2,8 @@
  * Long runs of calls: the library against the plain C ledger of bench/plain.c. Each side has its own image and answer
  * buffer; number, whole image and whole answer are compared after every call. Most calls are sensible ones that carry
  * lots through all states, the others are wild: random bytes, fields out of range, wrong lengths, short answers, and
- * copies of the image with a field out of place. The library's buffers stand between painted bytes or at a wall.
+ * copies of the image with a field out of place or with what a lot holds elsewhere. The library's buffers stand between
+ * painted bytes or at a wall.
  *
  * longrun         all runs, then the tables of what was reached. The last line is 'N passed, M failed': N counts the
  *                 calls that agree and what was reached, M the differences and what was never reached
@@ -148,6 +149,7 @@ struct making {
 static const struct making filled = {fill_to_limit, count_filled};
 static const struct making stray = {stray_image, count_stray};
 static const struct making damaged = {damage_image, count_damaged};
+static const struct making misplaced = {misplace_held, count_misplaced};
 
 /* both judge a made-up image; the run goes on with the one before */
 static void judge_made_up(const struct making *making)
@@ -207,11 +209,12 @@ static void bid_for_all(void)
         make(CRZ_KIND_LIMIT_BID, 3 + n % (plan.accounts - 2), n, 15000 + 5 * (n % 3));
 }
 
+/* three lots of four, the last one too, so that it is settled and holds money */
 static void lodge_most(void)
 {
     unsigned n;
     for (n = 1; n <= CRZ_RECEIPT_COUNT; n++)
-        if (n % 4 != 0)
+        if (n % 4 != 1)
             make(CRZ_KIND_LODGE, 2, n, 0);
 }
 
@@ -275,9 +278,11 @@ static void make_any(void)
         judge_made_up(&stray);
     else if (draw < 120)
         judge_made_up(&damaged);
-    if (draw < 120)
+    else if (draw < 150)
+        judge_made_up(&misplaced);
+    if (draw < 150)
         return;
-    if (draw < 240)
+    if (draw < 270)
         wild_call(&q, library.image);
     else
         sensible_call(&q, library.image);

@@ -67,6 +67,14 @@ uint64_t stray_image(uint8_t *image);
 /* gives an account so much that the total lies at its limit or one fen beside it */
 uint64_t fill_to_limit(uint8_t *image);
 
+/* puts what a lot holds elsewhere, the total still agreeing; leaves the image where no lot holds anything */
+uint64_t misplace_held(uint8_t *image);
+
+/* from its buyer's frozen money to that of its seller or of the account before the buyer (96 before 1), or to the
+ * buyer's free money */
+enum held_to { TO_SELLER, TO_ACCOUNT_BEFORE, TO_FREE, HELD_TOS };
+void move_held(uint8_t *image, uint32_t lot, enum held_to to);
+
 /* ── Counts (longrun_counts.c) ─────────────────────────────────────────────────────────────────── */
 
 /* a call, what it returned, and images and answer around it; of a made-up image, also the one that it was made from */
@@ -78,10 +86,11 @@ struct made {
 
 void count_call(const struct made *made);
 
-/* what was said of the three kinds of images */
+/* what was said of the four kinds of images */
 void count_damaged(const struct made *made);
 void count_stray(const struct made *made);
 void count_filled(const struct made *made);
+void count_misplaced(const struct made *made);
 
 /* prints the counts; adds up what was reached, and what was not although it can be */
 void show_counts(unsigned long *reached, unsigned long *unreached);

@@ -3,7 +3,8 @@
  * outcome, a contract that nothing was struck at, strikes of one quote at one price and at several, an amount or a
  * total at its limit, a premium at the ends of its range, every outcome of lots with a premium of either sign and with
  * none, a tonne that costs nothing or one yuan; parts of 0 fen, parts as large as the invoice's own share and one fen
- * larger, and images in which a fen too much or too little of a rest is paid.
+ * larger, and images in which a fen too much or too little of a rest is paid; images in which what a lot holds, in each
+ * state that holds something and of lot 128, is frozen from its seller or from the account before, or is free.
  */
 #include "longrun.h"
 
@@ -88,6 +89,11 @@ static unsigned long parts[TURNS][PARTS];
 enum paid { MUST_BE, FEN_MORE, FEN_LESS, PAIDS };
 enum { NOTHING_CONFIRMED, SOME_CONFIRMED, CONFIRMEDS };
 static unsigned long put_paid[CONFIRMEDS][VERDICTS][PAIDS];
+
+/* images that differ from a valid one in nothing but where the held money of a lot is: by the lot's state, from 2 on,
+ * and those of lot 128 */
+enum { HOLDING = CRZ_STATE_FIRST_PAID - CRZ_STATE_BID_STANDS + 1, OF_LAST_LOT = HOLDING, HOLDERS };
+static unsigned long misplaced[HELD_TOS][VERDICTS][HOLDERS];
 
 /* quotes that struck two lots or more; with two at one price, at different prices, both; quotes that struck all lots */
 enum { SEVERAL, AT_ONE_PRICE, AT_DIFFERENT_PRICES, AT_BOTH, EVERY_LOT, QUOTES };
@@ -350,6 +356,32 @@ void count_filled(const struct made *made)
     count_limit(filled[made->number == CRZ_NUMBER_BAD_IMAGE], crz_get_total(made->before));
 }
 
+/* a lot whose held money is there; two lots that hold the same sum from one account can both be */
+static void count_moved(const struct made *made, uint32_t lot, enum held_to to)
+{
+    static uint8_t moved[CRZ_IMAGE_LENGTH];
+    unsigned long *counts = misplaced[to][made->number == CRZ_NUMBER_BAD_IMAGE];
+    memcpy(moved, made->sound, sizeof moved);
+    move_held(moved, lot, to);
+    if (memcmp(moved, made->before, sizeof moved) != 0)
+        return;
+    counts[crz_get_receipt(moved, lot).state - CRZ_STATE_BID_STANDS]++;
+    counts[OF_LAST_LOT] += lot == CRZ_RECEIPT_COUNT;
+}
+
+void count_misplaced(const struct made *made)
+{
+    uint32_t lot;
+    for (lot = 1; lot <= CRZ_RECEIPT_COUNT; lot++) {
+        struct crz_receipt_fields receipt = crz_get_receipt(made->sound, lot);
+        if (crz_held_money(&receipt) == 0)
+            continue;
+        count_moved(made, lot, TO_SELLER);
+        count_moved(made, lot, TO_ACCOUNT_BEFORE);
+        count_moved(made, lot, TO_FREE);
+    }
+}
+
 /* ── Tables ────────────────────────────────────────────────────────────────────────────────────── */
 
 static unsigned long met, unmet;
@@ -458,6 +490,17 @@ static void show_parts(void)
     show_row("image is not valid", put_paid[SOME_CONFIRMED][1], "-++");
 }
 
+static void show_misplaced(void)
+{
+    static const char *const names[HELD_TOS] = {"to the seller", "to account before", "to free money"};
+    unsigned i;
+    printf("%-22s %6s %6s %6s %6s %6s %6s\n", "held money, by state", "2", "3", "4", "5", "6", "lot128");
+    for (i = 0; i < HELD_TOS; i++) {
+        show_row(names[i], misplaced[i][0], "------");
+        show_row("image is not valid", misplaced[i][1], "++++++");
+    }
+}
+
 void show_counts(unsigned long *reached, unsigned long *unreached)
 {
     show_kinds();
@@ -466,6 +509,7 @@ void show_counts(unsigned long *reached, unsigned long *unreached)
     show_amounts();
     show_premiums();
     show_parts();
+    show_misplaced();
     printf("%-22s %6s %6s\n", "made-up images", "valid", "not");
     show_row("a field out of place", damaged, "++");
     show_row("valid, not reached", stray, "+-");

@@ -199,6 +199,47 @@ uint64_t damage_image(uint8_t *image)
     return 0;
 }
 
+/* ── What lots hold ────────────────────────────────────────────────────────────────────────────── */
+
+static uint64_t held_by(const uint8_t *image, uint32_t lot)
+{
+    struct crz_receipt_fields receipt = crz_get_receipt(image, lot);
+    return crz_held_money(&receipt);
+}
+
+void move_held(uint8_t *image, uint32_t lot, enum held_to to)
+{
+    struct crz_receipt_fields receipt = crz_get_receipt(image, lot);
+    uint32_t before = receipt.buyer == 1 ? CRZ_ACCOUNT_COUNT : receipt.buyer - 1;
+    uint8_t *frozen = account_in(image, receipt.buyer) + CRZ_ACCOUNT_FROZEN;
+    uint8_t *const places[HELD_TOS] = {account_in(image, receipt.seller) + CRZ_ACCOUNT_FROZEN,
+        account_in(image, before) + CRZ_ACCOUNT_FROZEN, account_in(image, receipt.buyer) + CRZ_ACCOUNT_FREE};
+    uint64_t held = crz_held_money(&receipt);
+    add_to(frozen, 0 - held);
+    add_to(places[to], held);
+}
+
+/* a lot of the drawn state, else any that holds money; 0 where none does */
+static uint32_t some_holder(const uint8_t *image)
+{
+    uint32_t lot = (uint32_t)between(1, CRZ_RECEIPT_COUNT), found = 0, i;
+    uint64_t state = between(CRZ_STATE_BID_STANDS, CRZ_STATE_FIRST_PAID);
+    for (i = 0; i < CRZ_RECEIPT_COUNT; i++, lot = lot % CRZ_RECEIPT_COUNT + 1)
+        if (held_by(image, lot) != 0 && (found == 0 || crz_get_receipt(image, lot).state == state))
+            found = lot;
+    return found;
+}
+
+uint64_t misplace_held(uint8_t *image)
+{
+    int last = percent(20) && held_by(image, CRZ_RECEIPT_COUNT) != 0;
+    uint32_t lot = last ? CRZ_RECEIPT_COUNT : some_holder(image);
+    enum held_to to = (enum held_to)below(HELD_TOS);
+    if (lot != 0)
+        move_held(image, lot, to);
+    return lot;
+}
+
 /* ── Valid images that no run reaches ──────────────────────────────────────────────────────────── */
 
 /* a price beside the other, at most one step away, within the range */

@@ -107,9 +107,9 @@ fn close(k: u64) -> Request {
     request_of(15, 0, 0, 0)
 }
 
-// One lot of four is not lodged: the call comes from another account.
+// One lot of four is not lodged: the call comes from another account. The last lot is lodged, so that it is settled and holds money.
 fn lodge(lot: u64) -> Request {
-    if lot % 4 == 0 {
+    if lot % 4 == 1 {
         return request_of(10, SELLER_OF_ALL + 1, lot, 0);
     }
     request_of(10, SELLER_OF_ALL, lot, 0)

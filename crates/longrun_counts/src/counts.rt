@@ -2,6 +2,7 @@
 use crate::limits::count_limits;
 use crate::limits::count_premiums;
 use crate::lines::line;
+use crate::misplaced::count_misplaced;
 use crate::parts::count_part;
 use crate::parts::count_trades;
 use crate::tally::AT_BOTH;
@@ -229,6 +230,7 @@ pub fn count_altered(q: Request, v: Verdict, sound: &Page, altered: &Page, tally
     count_limits(q, altered, v.total, number, tally);
     count_premiums(sound, altered, number, tally);
     count_trades(sound, altered, number, tally);
+    count_misplaced(sound, altered, number, tally);
     if number == 2 {
         add(tally, REFUSED_IMAGES, 1);
     } else {

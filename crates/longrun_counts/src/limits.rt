@@ -37,7 +37,7 @@ use ledger_book::within;
 use longrun_draws::Request;
 
 // A call, whether it was accepted, whether it was refused by this number.
-fn count_number(tally: &mut Tally, place: u64, number: u64, refusal: u64) {
+pub fn count_number(tally: &mut Tally, place: u64, number: u64, refusal: u64) {
     add(tally, place, 1);
     if number == 0 {
         add(tally, plus(place, 1), 1);

@@ -5,6 +5,7 @@ use ledger_book::LAST_NUMBER;
 use ledger_book::LAST_OUTCOME;
 use ledger_book::plus;
 use ledger_book::product;
+use longrun_draws::HELD_PLACES;
 
 // Calls by kind and number: a row for each kind, 0 among them, and one for all above the last.
 pub const KIND_ROWS: u64 = LAST_KIND + 2;
@@ -102,8 +103,18 @@ pub const PAID_OTHER: u64 = 6;
 
 pub const COUNTS_OF_PART: u64 = 7;
 
+// Images in which what a lot holds is elsewhere: a row for each state from 2 to 6, and one for the last lot. In each row, for each place
+// that it can be in, the same three counts.
+pub const HELD_SUMS: u64 = PARTS + 2 * COUNTS_OF_PART;
+
+pub const LAST_LOT: u64 = 5;
+
+pub const HOLDER_ROWS: u64 = LAST_LOT + 1;
+
+pub const COUNTS_OF_HOLDER: u64 = 3 * HELD_PLACES;
+
 // Single counts.
-pub const CALLS: u64 = PARTS + 2 * COUNTS_OF_PART;
+pub const CALLS: u64 = HELD_SUMS + HOLDER_ROWS * COUNTS_OF_HOLDER;
 
 pub const DIFFERENCES: u64 = CALLS + 1;
 
@@ -145,6 +156,13 @@ pub fn of_contract(contract: u64, what: u64) -> u64 {
 // The calls at a limit's `step`: 0 before it, 1 at it, 2 behind it. Those accepted and those refused come next.
 pub fn at_limit(limit: u64, step: u64) -> u64 {
     plus(LIMITS, product(3, plus(product(3, limit), step)))
+}
+
+pub fn of_held(row: u64, place: u64) -> u64 {
+    plus(
+        HELD_SUMS,
+        plus(product(row, COUNTS_OF_HOLDER), product(3, place)),
+    )
 }
 
 // ── Counting ────────────────────────────────────────────────────────────────────────────────────

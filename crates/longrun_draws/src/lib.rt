@@ -1,6 +1,7 @@
-// What the long runs draw from a seed: numbers, parties, prices, premiums and weights, pay-ins and take-outs.
+// What the long runs draw from a seed: numbers, parties, prices, premiums and weights, pay-ins and take-outs. What a lot holds, moved.
 mod choices;
 mod draws;
+mod held;
 mod money;
 mod requests;
 
@@ -19,6 +20,13 @@ pub use draws::beside;
 pub use draws::between;
 pub use draws::percent;
 pub use draws::word;
+pub use held::HELD_PLACES;
+pub use held::TO_ACCOUNT_BEFORE;
+pub use held::TO_FREE;
+pub use held::TO_SELLER;
+pub use held::held_by;
+pub use held::move_held;
+pub use held::raise_cell;
 pub use money::await_close;
 pub use money::meet_limit;
 pub use money::pay_in;

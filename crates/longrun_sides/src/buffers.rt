@@ -8,14 +8,6 @@ pub fn filled() -> Page {
     [FILL; PAGE_LENGTH]
 }
 
-pub fn same(a: &Page, b: &Page) -> bool {
-    let mut same = true;
-    for k in 0..PAGE_LENGTH {
-        same = same & (a[k] == b[k]);
-    }
-    same
-}
-
 // Whether all bytes from `start` on are as `filled` leaves them.
 pub fn is_filled(page: &Page, start: usize) -> bool {
     let mut same = true;

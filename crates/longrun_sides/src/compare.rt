@@ -2,7 +2,6 @@
 ghost use Prim.Native.Nat.{_≤_};
 use crate::buffers::filled;
 use crate::buffers::is_filled;
-use crate::buffers::same;
 use ledger_book::ANSWER_LENGTH;
 use ledger_book::CALL_ACCOUNT_END;
 use ledger_book::CALL_AMOUNT_END;
@@ -21,6 +20,7 @@ use ledger_book::empty_page;
 use ledger_book::page_cell;
 use ledger_book::put_field;
 use longrun_counts::Verdict;
+use longrun_counts::same;
 use longrun_draws::Request;
 
 // ── The call on each side ───────────────────────────────────────────────────────────────────────

@@ -1,11 +1,11 @@
 // The fresh entry on both sides, for a buffer of any length.
 use crate::buffers::filled;
 use crate::buffers::is_filled;
-use crate::buffers::same;
 use crate::compare::at_most;
 use crate::compare::wide;
 use ledger_book::IMAGE_LENGTH;
 use ledger_book::Page;
+use longrun_counts::same;
 
 fn fresh_lent(library: bool, image: &mut [u8]) -> u64 {
     if library {

@@ -1,8 +1,12 @@
-// What requests 2 and 3 of document 02 have at their edges and no call reached.
+// What requests 2 to 4 of document 02 have at their edges and no call reached.
 use ledger_book::plus;
+use ledger_book::product;
 use longrun_counts::ALTERED_HIGHEST_PREMIUM;
+use longrun_counts::COUNTS_OF_HOLDER;
 use longrun_counts::COUNTS_OF_PART;
+use longrun_counts::HELD_SUMS;
 use longrun_counts::HIGHEST_PREMIUM;
+use longrun_counts::HOLDER_ROWS;
 use longrun_counts::LAST_PAYMENT;
 use longrun_counts::LEAST_PREMIUM;
 use longrun_counts::LIMIT_COUNT;
@@ -85,8 +89,20 @@ fn missed_parts(tally: &Tally) -> u64 {
     missed
 }
 
+// No image in which what a lot holds is elsewhere is valid.
+fn missed_holders(tally: &Tally) -> u64 {
+    let mut missed: u64 = 0;
+    for k in 0..HOLDER_ROWS * COUNTS_OF_HOLDER / 3 {
+        if is_missed(tally, plus(HELD_SUMS, product(3, k)), false) {
+            missed = plus(missed, 1);
+        }
+    }
+    missed
+}
+
 pub fn missed_edges(tally: &Tally) -> u64 {
-    let missed_sums = plus(missed_limits(tally), missed_parts(tally));
+    let missed_payments = plus(missed_limits(tally), missed_parts(tally));
+    let missed_sums = plus(missed_payments, missed_holders(tally));
     let mut missed = plus(missed_sums, missed_outcomes(tally));
     if is_missed(tally, NOBODYS_PREMIUM, false) {
         missed = plus(missed, 1);

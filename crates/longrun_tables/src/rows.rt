@@ -13,11 +13,14 @@ use longrun_counts::ALTERED_LEAST_PREMIUM;
 use longrun_counts::ALTERED_PRICE;
 use longrun_counts::CALLS;
 use longrun_counts::COUNTS_OF_CONTRACT;
+use longrun_counts::COUNTS_OF_HOLDER;
 use longrun_counts::COUNTS_OF_OUTCOME;
 use longrun_counts::COUNTS_OF_PART;
 use longrun_counts::DIFFERENCES;
 use longrun_counts::FRESH;
+use longrun_counts::HELD_SUMS;
 use longrun_counts::HIGHEST_PREMIUM;
+use longrun_counts::HOLDER_ROWS;
 use longrun_counts::INVOICE_AMOUNT;
 use longrun_counts::KIND_ROWS;
 use longrun_counts::LAST_PAYMENT;
@@ -267,6 +270,15 @@ fn print_parts(tally: &Tally) {
     limit_rows(tally, PAID_FOR_NOTHING, 0);
 }
 
+fn print_holders(tally: &Tally) {
+    io::write_all(
+        1,
+        b"what a lot holds put elsewhere, by its state (the last row: lot 128): frozen from the seller, from the account before, free;\n",
+    );
+    io::write_all(1, b"of each: calls, accepted, refused by 2\n");
+    rows(tally, 2, HOLDER_ROWS + 2, HELD_SUMS, COUNTS_OF_HOLDER);
+}
+
 // ── All ─────────────────────────────────────────────────────────────────────────────────────────
 
 pub fn print_all(tally: &Tally) {
@@ -276,8 +288,9 @@ pub fn print_all(tally: &Tally) {
     print_premiums(tally);
     print_altered(tally);
     print_parts(tally);
+    print_holders(tally);
     line(
-        b"edges of premiums and parts that no call reached: ",
+        b"edges of premiums, parts and held money that no call reached: ",
         missed_edges(tally),
     );
     line(

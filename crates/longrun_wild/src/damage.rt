@@ -1,5 +1,4 @@
 // Damaged images: one field of a valid image gets another value. Often the sums are made to fit again, so that the field alone decides.
-use crate::sums::raise_cell;
 use crate::sums::rebook;
 use crate::values::displace;
 use crate::values::limit_in_receipt;
@@ -29,6 +28,7 @@ use longrun_draws::below;
 use longrun_draws::between;
 use longrun_draws::full_of;
 use longrun_draws::percent;
+use longrun_draws::raise_cell;
 
 // Any field; the premium more often, for few lots have a price near which it decides, and of a lot that is paid in parts those that say
 // how far that has gone.

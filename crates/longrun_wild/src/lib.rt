@@ -1,6 +1,7 @@
-// What no desk would do: calls with odd fields or buffers, and copies of a valid image with a field out of place or with a total about
-// its limit.
+// What no desk would do: calls with odd fields or buffers, and copies of a valid image with a field out of place, with what a lot holds
+// elsewhere, or with a total about its limit.
 mod damage;
+mod misplaced;
 mod odd;
 mod sums;
 mod values;
@@ -24,9 +25,10 @@ use longrun_draws::beside;
 use longrun_draws::between;
 use longrun_draws::pay_in;
 use longrun_draws::percent;
+use longrun_draws::raise_cell;
+use misplaced::misplace;
 pub use odd::make_wild;
 use odd::odd_field;
-use sums::raise_cell;
 
 // ── A total about its limit ─────────────────────────────────────────────────────────────────────
 
@@ -47,7 +49,18 @@ fn near_limit(seed: &mut u64, image: &mut Page, accounts: u64) -> Request {
     pay_in(seed, image, account)
 }
 
-// ── A field out of place ────────────────────────────────────────────────────────────────────────
+// ── A field or held money out of place ──────────────────────────────────────────────────────────
+
+// The lot that it concerns, or one that the next call may go to.
+fn put_out_of_place(seed: &mut u64, plan: Plan, image: &mut Page) -> u64 {
+    if percent(seed, 15) {
+        let lot = misplace(seed, image);
+        if lot != 0 {
+            return lot;
+        }
+    }
+    damage(seed, image, plan)
+}
 
 fn request_about(seed: &mut u64, plan: Plan, image: &Page, lot: u64) -> Request {
     if percent(seed, 30) {
@@ -64,7 +77,7 @@ pub fn alter(seed: &mut u64, plan: Plan, image: &mut Page) -> Request {
     if percent(seed, 8) {
         return near_limit(seed, image, plan.accounts);
     }
-    let lot = damage(seed, image, plan);
+    let lot = put_out_of_place(seed, plan, image);
     let q = request_about(seed, plan, image, lot);
     if percent(seed, 10) {
         return odd_field(seed, q);

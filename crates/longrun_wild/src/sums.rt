@@ -3,23 +3,16 @@ use ledger_book::ACCOUNTS;
 use ledger_book::BUYER;
 use ledger_book::FREE;
 use ledger_book::FROZEN;
-use ledger_book::PAID;
 use ledger_book::Page;
 use ledger_book::RECEIPTS;
-use ledger_book::STATE;
 use ledger_book::TOTAL;
 use ledger_book::ZONE;
-use ledger_book::held_in_state;
 use ledger_book::is_account;
 use ledger_book::page_cell;
 use ledger_book::plus;
 use ledger_book::set_page_cell;
-use longrun_draws::full_of;
-
-pub fn raise_cell(image: &mut Page, column: u64, row: u64, by: u64) {
-    let value = plus(page_cell(image, column, row), by);
-    set_page_cell(image, column, row, value);
-}
+use longrun_draws::held_by;
+use longrun_draws::raise_cell;
 
 fn clear_frozen(image: &mut Page) {
     for account in 1..ACCOUNTS + 1 {
@@ -29,13 +22,8 @@ fn clear_frozen(image: &mut Page) {
 
 fn freeze(image: &mut Page, lot: u64) {
     let buyer = page_cell(image, BUYER, lot);
-    let fen = held_in_state(
-        page_cell(image, STATE, lot),
-        full_of(image, lot),
-        page_cell(image, PAID, lot),
-    );
     if is_account(buyer) {
-        raise_cell(image, FROZEN, buyer, fen);
+        raise_cell(image, FROZEN, buyer, held_by(image, lot));
     }
 }
 

@@ -1,7 +1,7 @@
 use borrow.Author.Needs.{needs}
 use Rattle.ledger_book.specs.Loops.{left}
-use Rattle.longrun_sides.proofs.buffers.same.Statement.{statement}
-use Rattle.longrun_sides.proofs.buffers.same.Tie as tie
+use Rattle.longrun_counts.proofs.pages.same.Statement.{statement}
+use Rattle.longrun_counts.proofs.pages.same.Tie as tie
 
 abbrev Inv-loop : tie.InvT-loop
 Inv-loop a b same₀ k₀ same k = Unit {0}
