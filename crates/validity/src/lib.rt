@@ -157,7 +157,7 @@ pub fn settled_ok(r: Record) -> bool
     listing_fits(r) & bid_fits(r) & due_fits(r) & (r.owner == r.buyer) & no_invoices_ok(r)
 }
 
-// The invoices last: what they are tested against is paid at most in full, and that is known of a bid that fits.
+// The invoices last: the full payment that they are tested against is that of a price which can be paid.
 pub fn first_paid_ok(r: Record) -> bool
     requires { ⌜ (keptOk r ≡ true) × (r .state ≡ 6) ⌝ }
     ensures { λ x. ⌜ x ≡ recordValid r ⌝ }

@@ -2,8 +2,9 @@
 ghost use mathlib.Core.Path.{_≡_};
 ghost use mathlib.Core.Bool.{true};
 ghost use mathlib.Core.Logic.{_≢_};
-ghost use Prim.Native.Nat.{_≤_, _<_};
+ghost use Prim.Native.Nat.{_+_, _^_, _≤_, _<_};
 ghost use lib.ListN.{length, replicate};
+ghost use Rattle.units.specs.Payments.{fen};
 ghost use Rattle.units.specs.Ranges.{receiptCount, moneyLimit};
 ghost use Rattle.zone.specs.Valid.{blank, recordValid, askOk, all};
 ghost use Rattle.image.specs.Layout.{imageLength, receiptLength, headerOk, receiptRun, recordIn, asksIn};
@@ -180,6 +181,13 @@ fn hold_at(image: &[u8], k: usize, valid: &mut [bool]) -> Hold
     validity::hold_of(image::record_at(image, k))
 }
 
+fn plus(sum: Fen, more: Fen) -> Fen
+    requires { ⌜ sum .0 + more .0 < 2 ^ 64 ⌝ }
+    ensures { λ r. ⌜ r ≡ fen (sum .0 + more .0) ⌝ }
+{
+    Fen(sum.0 + more.0)
+}
+
 // What the lots hold from each account: one walk over them, from the last to the first, each adding to the account that it names. Of a
 // record that is not valid nothing is added, and its mark is taken away.
 pub fn frozen_sums(image: &[u8], valid: &mut [bool]) -> [Fen; ACCOUNTS]
@@ -194,7 +202,7 @@ pub fn frozen_sums(image: &[u8], valid: &mut [bool]) -> [Fen; ACCOUNTS]
         let from = h.from as usize;
         if from != 0 {
             let place = from - 1;
-            sums[place] = Fen(sums[place].0 + h.fen.0);
+            sums[place] = plus(sums[place], h.fen);
         }
     }
     sums

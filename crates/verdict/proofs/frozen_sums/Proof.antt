@@ -5,7 +5,7 @@ use mathlib.Core.Path.{_≡_, sym, ap, _∙_}
 use Prim.Native.Nat.{ℕ, _+_, _-_, _*_, _≤_, _<_}
 use native.Mathlib.Omega.{arith}
 use denote.Ref.{now}
-use lib.ListN.{length, getD, set, length-replicate}
+use lib.ListN.{length, set, length-replicate}
 use Rattle.units.specs.declared.Fen.{Fen}
 use Rattle.units.specs.Payments.{fen}
 use Rattle.units.specs.Laws.Bounds.{mostFull}
@@ -49,8 +49,8 @@ cast-from c = search needs
 sub-place : tie.Need-sub-place Inv-loop μ-loop
 sub-place c = search needs
 
-mul-t12 : tie.Need-mul-t12 Inv-loop μ-loop
-mul-t12 c = search needs
+mul-plus : tie.Need-mul-plus Inv-loop μ-loop
+mul-plus c = search needs
 
 -- the walk's hold is from an account or from nobody, and small
 from-known : (c : tie.After-hold-at Inv-loop μ-loop) → c .hold-at .result .from ≤ accountCount
@@ -59,36 +59,37 @@ from-known c = rw (c .hold-at .ensures .0) (hold-known _)
 fen-small : (c : tie.After-hold-at Inv-loop μ-loop) → c .hold-at .result .fen .0 ≤ mostFull
 fen-small c = rw (c .hold-at .ensures .0) (hold-small _)
 
-element-copy-out-t15 : tie.Need-element-copy-out-t15 Inv-loop μ-loop
-element-copy-out-t15 c = omega (arith, from-known (c .before .before .before .before))
+array-copy-out-plus : tie.Need-array-copy-out-plus Inv-loop μ-loop
+array-copy-out-plus c = omega (arith, from-known (c .before .before .before .before))
 
-add-t16 : tie.Need-add-t16 Inv-loop μ-loop
-add-t16 c =
+plus-requires : tie.Need-plus-requires Inv-loop μ-loop
+plus-requires c κs =
     let s = now (c .before .before .before .before .before .before .before .before .before .before .before .before .args .image) in
     let l = c .before .before .before .before .before .before .before .before .loop in
     let at : c .before .before .before .before .before .hold-at .result .from - 1 < accountCount = omega (arith, from-known (c .before .before .before .before .before)) in
-    let m : getD (l .sums) (c .before .before .before .before .before .hold-at .result .from - 1) (fen 0) .0 ≤ mostFull * length (lastRecords s (l .i)) = rw (l .inv .1) (sum-le validHold hold-known mostFull hold-small (lastRecords s (l .i)) _ at) in
+    let m : sumAt (l .sums) (c .before .before .before .before .before .hold-at .result .from - 1) ≤ mostFull * length (lastRecords s (l .i)) = rw (l .inv .1) (sum-le validHold hold-known mostFull hold-small (lastRecords s (l .i)) _ at) in
     omega (arith, m, last-length s (l .i), fen-small (c .before .before .before .before .before))
 
 mul-sums : tie.Need-mul-sums Inv-loop μ-loop
 mul-sums c = search needs
 
 array-set-from-sums : tie.Need-array-set-from-sums Inv-loop μ-loop
-array-set-from-sums c = omega (arith, from-known (c .before .before .before .before .before))
+array-set-from-sums c = omega (arith, from-known (c .before .before .before .before .before .before))
 
 loop-less : tie.Need-loop-less Inv-loop μ-loop
 loop-less c = search needs
 
 loop-again : tie.Need-loop-again Inv-loop μ-loop
 loop-again c =
-    let s = now (c .before .before .before .before .before .before .before .before .before .before .before .before .args .image) in
-    let l = c .before .before .before .before .before .before .before .before .loop in
-    let h = c .before .before .before .before .before .hold-at .result in (
+    let s = now (c .before .before .before .before .before .before .before .before .before .before .before .before .before .args .image) in
+    let l = c .before .before .before .before .before .before .before .before .before .loop in
+    let h = c .before .before .before .before .before .before .hold-at .result in (
       omega arith,
-      ap (λ (m : List Fen). set m (h .from - 1) (fen (sumAt m (h .from - 1) + h .fen .0))) (l .inv .1)
-          ∙ sym (add-some (h .from) (h .fen .0) (sumsBy validHold (lastRecords s (l .i))) (c .before .if1 .taken))
-          ∙ sums-turn s (l .i) (omega arith) (omega arith) h (c .before .before .before .before .before .hold-at .ensures .0),
-      c .before .before .before .before .before .hold-at .ensures .1 ∙ ap (λ (m : List Bool). marked m (l .i - 1) (recordValid (recordIn (receiptRun s (l .i - 1))))) (l .inv .2) ∙ marks-turn s (l .i) (omega arith) (omega arith),
+      ap (set (l .sums) (h .from - 1)) (c .plus .ensures)
+          ∙ ap (λ (m : List Fen). set m (h .from - 1) (fen (sumAt m (h .from - 1) + h .fen .0))) (l .inv .1)
+          ∙ sym (add-some (h .from) (h .fen .0) (sumsBy validHold (lastRecords s (l .i))) (c .before .before .if1 .taken))
+          ∙ sums-turn s (l .i) (omega arith) (omega arith) h (c .before .before .before .before .before .before .hold-at .ensures .0),
+      c .before .before .before .before .before .before .hold-at .ensures .1 ∙ ap (λ (m : List Bool). marked m (l .i - 1) (recordValid (recordIn (receiptRun s (l .i - 1))))) (l .inv .2) ∙ marks-turn s (l .i) (omega arith) (omega arith),
     )
 
 loop-less-2 : tie.Need-loop-less-2 Inv-loop μ-loop
@@ -127,9 +128,9 @@ frozen-sums-spec =
     hold-at-requires
     cast-from
     sub-place
-    mul-t12
-    element-copy-out-t15
-    add-t16
+    mul-plus
+    array-copy-out-plus
+    plus-requires
     mul-sums
     array-set-from-sums
     loop-less
