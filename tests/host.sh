@@ -8,16 +8,16 @@
 ends 2 "crz new FILE"
 ends 0 "crz new FILE" --help
 ends 0 "crz new FILE" help
-ends 0 "crz 3.0.0, zone format 4, SQLite 3" --version
+ends 0 "crz 3.0.1, zone format 4, SQLite 3" --version
 for command in new call play show log verify statement due import export; do
     ends 0 "crz $command FILE" help "$command"
     ends 0 "crz $command FILE" "$command" --help
-    ends 0 "crz 3.0.0, zone format 4" "$command" --version
+    ends 0 "crz 3.0.1, zone format 4" "$command" --version
     ends 2 "$command takes FILE" "$command"
 done
 ends 0 "crz new FILE" help --help
 ends 0 "crz new FILE" help help
-ends 0 "crz 3.0.0" help --version
+ends 0 "crz 3.0.1" help --version
 ends 0 "kilograms   1,000 to 60,000" help call
 ends 0 "register account N receipt N kilograms N [premium N]" help register
 ends 0 "premium     -5,000 to 5,000; 0 where it is left out" help register

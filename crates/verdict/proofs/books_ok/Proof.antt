@@ -100,10 +100,10 @@ passed : (c : tie.Else2 Inv-loop μ-loop) →
 passed c = account-passed _ _ (c .if2 .left)
 
 add-money : tie.Need-add-money Inv-loop μ-loop
-add-money c = omega (arith, passed (c .before) .free, sum-small (c .before .before .before .before .before .before .before .before .before .before .before) (c .before .before .before .before .before .before .loop .i) (omega arith))
+add-money c = omega (arith, passed (c .before) .free, passed (c .before) .frozen, sum-small (c .before .before .before .before .before .before .before .before .before .before .before) (c .before .before .before .before .before .before .loop .i) (omega arith))
 
 add-money-2 : tie.Need-add-money-2 Inv-loop μ-loop
-add-money-2 c = omega (arith, passed (c .before) .free, sum-small (c .before .before .before .before .before .before .before .before .before .before .before) (c .before .before .before .before .before .before .loop .i) (omega arith))
+add-money-2 c = omega (arith, passed (c .before) .free, passed (c .before) .frozen, sum-small (c .before .before .before .before .before .before .before .before .before .before .before) (c .before .before .before .before .before .before .loop .i) (omega arith))
 
 add-i : tie.Need-add-i Inv-loop μ-loop
 add-i c = search needs
@@ -125,7 +125,7 @@ loop-again c =
       omega arith,
       ap (λ (t : List Account). frozenFrom 0 t sums) (table-suc (l .i) f) ∙ frozen-one 0 (table (l .i) f) (f (l .i)) sums ∙ rw (l .inv .1, place, e, eq-eqb _ _ (p .frozen)),
       omega (arith, m, l .inv .2, p .frozen),
-      omega (arith, p .free, sum-small (c .before .before .before .before .before .before .before .before .before .before .before) (l .i) (omega arith)),
+      omega (arith, p .free, p .frozen, sum-small (c .before .before .before .before .before .before .before .before .before .before .before) (l .i) (omega arith)),
     )
 
 returns-3 : tie.Need-returns-3 Inv-loop μ-loop

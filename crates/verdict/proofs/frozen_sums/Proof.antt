@@ -2,10 +2,10 @@
 use mathlib.Core.Bool.{Bool, true}
 use mathlib.Core.List.{List}
 use mathlib.Core.Path.{_≡_, sym, ap, _∙_}
-use Prim.Native.Nat.{ℕ, _+_, _-_, _*_, _≤_, _<_}
+use Prim.Native.Nat.{ℕ, _+_, _-_, _≤_}
 use native.Mathlib.Omega.{arith}
 use denote.Ref.{now}
-use lib.ListN.{length, set, length-replicate}
+use lib.ListN.{set, length-replicate}
 use Rattle.units.specs.declared.Fen.{Fen}
 use Rattle.units.specs.Payments.{fen}
 use Rattle.units.specs.Laws.Bounds.{mostFull}
@@ -14,8 +14,8 @@ use Rattle.zone.specs.Valid.{recordValid}
 use Rattle.image.specs.Layout.{receiptRun, recordIn}
 use Rattle.verdict.specs.Sums.{validHold, sumsBy}
 use Rattle.verdict.specs.Walk.{marksFrom, marked}
-use Rattle.verdict.specs.Laws.Sums.{sumAt, add-some, add-none, sum-le, hold-known, hold-small}
-use Rattle.verdict.specs.Laws.Walk.{lastRecords, sums-start, sums-turn, last-length, marks-start, marks-turn, marks-end, marks-length}
+use Rattle.verdict.specs.Laws.Sums.{sumAt, add-some, add-none, hold-known, hold-small}
+use Rattle.verdict.specs.Laws.Walk.{lastRecords, sums-start, sums-turn, sum-room, marks-start, marks-turn, marks-end, marks-length}
 use borrow.Author.Needs.{needs}
 use Rattle.verdict.proofs.frozen_sums.Statement.{statement}
 use Rattle.verdict.proofs.frozen_sums.Tie as tie
@@ -64,11 +64,7 @@ array-copy-out-plus c = omega (arith, from-known (c .before .before .before .bef
 
 plus-requires : tie.Need-plus-requires Inv-loop μ-loop
 plus-requires c κs =
-    let s = now (c .before .before .before .before .before .before .before .before .before .before .before .before .args .image) in
-    let l = c .before .before .before .before .before .before .before .before .loop in
-    let at : c .before .before .before .before .before .hold-at .result .from - 1 < accountCount = omega (arith, from-known (c .before .before .before .before .before)) in
-    let m : sumAt (l .sums) (c .before .before .before .before .before .hold-at .result .from - 1) ≤ mostFull * length (lastRecords s (l .i)) = rw (l .inv .1) (sum-le validHold hold-known mostFull hold-small (lastRecords s (l .i)) _ at) in
-    omega (arith, m, last-length s (l .i), fen-small (c .before .before .before .before .before))
+    sum-room (now (c .before .before .before .before .before .before .before .before .before .before .before .before .args .image)) (c .before .before .before .before .before .before .before .before .loop .i) _ (c .before .before .before .before .before .before .before .before .loop .inv .1) _ (omega (arith, from-known (c .before .before .before .before .before))) _ (fen-small (c .before .before .before .before .before))
 
 mul-sums : tie.Need-mul-sums Inv-loop μ-loop
 mul-sums c = search needs

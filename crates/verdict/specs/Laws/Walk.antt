@@ -4,14 +4,16 @@ use mathlib.Core.Bool.{Bool, true, false, _||_}
 use mathlib.Core.List.{List, [], _∷_, map}
 use mathlib.Core.Logic.{_≢_}
 use mathlib.Core.Path.{_≡_, refl, sym, ap, _∙_}
-use Prim.Native.Nat.{ℕ, suc, _+_, _-_, _≤_, _<_}
+use Prim.Native.Nat.{ℕ, suc, _+_, _-_, _*_, _^_, _≤_, _<_}
 use native.Mathlib.Decide.{ℕ-discrete}
 use native.Mathlib.Omega.{arith}
 use borrow.Author.Tests.{lt-ltb, le-ltb, ltb-true, ltb-false}
 use lib.Dec.{ltb}
 use lib.ListN.{length, getD, set, drop, replicate, length-drop, length-replicate, getD-replicate}
 use lib.Seq.{getD-drop}
-use Rattle.units.specs.Ranges.{receiptCount}
+use Rattle.units.specs.declared.Fen.{Fen}
+use Rattle.units.specs.Laws.Bounds.{mostFull}
+use Rattle.units.specs.Ranges.{accountCount, receiptCount}
 use Rattle.zone.specs.declared.Hold.{Hold}
 use Rattle.zone.specs.declared.Record.{Record}
 use Rattle.zone.specs.Record.{recordOf}
@@ -21,7 +23,7 @@ use Rattle.image.specs.Layout.{receiptRun, recordIn, recordsIn}
 use Rattle.image.specs.Laws.Table.{length-table, getD-table, is-table, table-cong, set-table, map-table}
 use Rattle.verdict.specs.Sums.{validHold, addTo, noSums, sumsBy, validRecords}
 use Rattle.verdict.specs.Walk.{BlankFrom, marksFrom, marked}
-use Rattle.verdict.specs.Laws.Sums.{sums-more, blank-valid, blank-hold}
+use Rattle.verdict.specs.Laws.Sums.{sumAt, sum-le, sums-more, hold-known, hold-small, blank-valid, blank-hold}
 
 -- ── The sums ───────────────────────────────────────────────────────────────────────────────────
 
@@ -84,8 +86,12 @@ module _ (s : List ℕ) where
       ∙ ap (λ (g : Hold). addTo (g .from) (g .fen .0) (sumsBy validHold (lastRecords (suc k)))) had
       ∙ ap (λ (j : ℕ). addTo (h .from) (h .fen .0) (sumsBy validHold (lastRecords j))) next)
 
-  pub last-length : (n : ℕ) → length (lastRecords n) ≤ receiptCount
-  last-length n = omega (arith, length-drop n (recordsIn s), count)
+  -- a sum on the way, and what one lot holds, fit 64 bits together
+  pub sum-room : (i : ℕ) (sums : List Fen) → sums ≡ sumsBy validHold (lastRecords i) → (p : ℕ) → p < accountCount → (n : ℕ) → n ≤ mostFull →
+      sumAt sums p + n < 2 ^ 64
+  sum-room i sums e p h n q =
+      let m : sumAt sums p ≤ mostFull * length (lastRecords i) = rw e (sum-le validHold hold-known mostFull hold-small (lastRecords i) p h) in
+      omega (arith, m, length-drop i (recordsIn s), count)
 
   -- ── The marks ──
 
