@@ -8,7 +8,7 @@
  * bench LEDGER ROW   one round of one row, to count its instructions: LEDGER is library, gcc or clang
  *
  * A row is a call, the image that it finds and what it returns. A new one is a line of `rows`, and a function that
- * fills its image if none of the five here will do. An entry of another form is a field more of `ledgers`, and is
+ * fills its image if none of the six here will do. An entry of another form is a field more of `ledgers`, and is
  * called in one_round.
  */
 #define _POSIX_C_SOURCE 200809L
@@ -138,6 +138,15 @@ static void busy_but_last(uint8_t *image)
     fill_lots(image, LAST - 1);
 }
 
+/* the receipts with odd numbers, so that every second record is empty */
+static void half(uint8_t *image)
+{
+    unsigned number;
+    fill_accounts(image);
+    for (number = 1; number <= CRZ_RECEIPT_COUNT; number += 2)
+        put_receipt(image, number, number / 2 % 8);
+}
+
 /* one receipt listed and the money for one bid on it in one account; all else is empty */
 static void idle(uint8_t *image)
 {
@@ -193,6 +202,7 @@ static const struct row rows[] = {
     {"confirmation, idle", idle_but_trade, CRZ_KIND_CONFIRM, PAYER, TRADE, 0, 0, CRZ_NUMBER_ACCEPTED},
     {"refusal, busy", busy, CRZ_KIND_LODGE, 1, 1, 0, 0, CRZ_NUMBER_WRONG_STATE},
     {"refusal, idle", idle, CRZ_KIND_LODGE, 1, 1, 0, 0, CRZ_NUMBER_WRONG_STATE},
+    {"refusal, half", half, CRZ_KIND_LODGE, 1, 1, 0, 0, CRZ_NUMBER_WRONG_STATE},
 };
 
 enum { ROWS = sizeof rows / sizeof rows[0] };

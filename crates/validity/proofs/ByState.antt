@@ -3,7 +3,7 @@
 use Rattle.units.specs.Ranges.{accountCount, isAccount, isWeight, isPremium}
 use mathlib.Core.Bool.{Bool, true, false, _&&_, or-false, and-true, and-assoc}
 use mathlib.Core.Logic.{_⊎_, inl, inr, _≢_}
-use mathlib.Core.Path.{_≡_, refl, sym, ap, _∙_}
+use mathlib.Core.Path.{_≡_, refl, _∙_}
 use Prim.Native.Nat.{ℕ, _+_, _≤_}
 use native.Mathlib.Decide.{ℕ-discrete}
 use native.Mathlib.Omega.{arith}

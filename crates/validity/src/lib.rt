@@ -1,6 +1,6 @@
 // When a record is valid, and what its lot holds.
 ghost use mathlib.Core.Path.{_≡_};
-ghost use mathlib.Core.Bool.{true, _&&_};
+ghost use mathlib.Core.Bool.{true};
 ghost use Prim.Native.Nat.{_≤_};
 ghost use Rattle.units.specs.Ranges.{mostWeight};
 ghost use Rattle.zone.specs.Held.{full, holdOf};

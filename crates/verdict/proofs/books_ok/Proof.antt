@@ -1,5 +1,5 @@
 -- The first i accounts pass their test and are added up; the measure is the accounts that are left.
-use mathlib.Core.Bool.{Bool, true, false, _&&_, and-false, and-assoc}
+use mathlib.Core.Bool.{Bool, true, _&&_, and-false, and-assoc}
 use mathlib.Core.List.{List}
 use mathlib.Core.Path.{_≡_, refl, sym, ap, _∙_}
 use Prim.Native.Nat.{ℕ, _+_, _-_, _*_, _≤_, _<_}

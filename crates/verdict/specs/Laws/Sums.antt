@@ -22,7 +22,7 @@ use Rattle.zone.specs.Valid.{all, blank, recordValid, noReceipt}
 use Rattle.zone.specs.Laws.Facts.{blank-is, none-valid, bounds}
 use Rattle.zone.specs.Laws.Held.{held-le, fenFrom-same, fenFrom-other, fenFrom-le}
 use Rattle.zone.specs.Laws.Tests.{both}
-use Rattle.verdict.specs.Sums.{noHold, validHold, addTo, noSums, sumsBy}
+use Rattle.verdict.specs.Sums.{noHold, validHold, addTo, sumsBy}
 
 -- the sum at a place
 abbrev pub sumAt : List Fen → ℕ → ℕ

@@ -1,7 +1,7 @@
 -- The walk from the last record to the first: its start, where the records behind are blank, a turn, and its end.
 -- Assumes nothing.
 use mathlib.Core.Bool.{Bool, true, false, _||_}
-use mathlib.Core.List.{List, [], _∷_, map}
+use mathlib.Core.List.{List, [], _∷_}
 use mathlib.Core.Logic.{_≢_}
 use mathlib.Core.Path.{_≡_, refl, sym, ap, _∙_}
 use Prim.Native.Nat.{ℕ, suc, _+_, _-_, _*_, _^_, _≤_, _<_}
@@ -9,7 +9,7 @@ use native.Mathlib.Decide.{ℕ-discrete}
 use native.Mathlib.Omega.{arith}
 use borrow.Author.Tests.{lt-ltb, le-ltb, ltb-true, ltb-false}
 use lib.Dec.{ltb}
-use lib.ListN.{length, getD, set, drop, replicate, length-drop, length-replicate, getD-replicate}
+use lib.ListN.{length, getD, drop, replicate, length-drop, length-replicate, getD-replicate}
 use lib.Seq.{getD-drop}
 use Rattle.units.specs.declared.Fen.{Fen}
 use Rattle.units.specs.Laws.Bounds.{mostFull}
@@ -18,7 +18,6 @@ use Rattle.zone.specs.declared.Hold.{Hold}
 use Rattle.zone.specs.declared.Record.{Record}
 use Rattle.zone.specs.Record.{recordOf}
 use Rattle.zone.specs.Valid.{blank, recordValid, noReceipt}
-use Rattle.image.specs.Table.{table}
 use Rattle.image.specs.Layout.{receiptRun, recordIn, recordsIn}
 use Rattle.image.specs.Laws.Table.{length-table, getD-table, is-table, table-cong, set-table, map-table}
 use Rattle.verdict.specs.Sums.{validHold, addTo, noSums, sumsBy, validRecords}
