@@ -14,7 +14,8 @@
  * somewhere would make of it. Each of these must be refused, and but for the one in which the total is wrong too,
  * nothing but the frozen sums can decide.
  *
- * damage         all of it. The last line is 'N passed, M failed': N counts the fields and the sums that were damaged
+ * damage         all of it. The last line is 'N passed, M failed': N counts the fields and the sums that were damaged,
+ *                the zones before that and what must be among all of it
  * damage first   ends at the first failure
  */
 #include "../include/crz_records.h"
@@ -332,7 +333,7 @@ static void add_limits(struct values *values, unsigned offset, const struct crz_
     }
 }
 
-/* what is paid of a trade in both, by the formula */
+/* where the lot is in state 6 before and after, paid becomes what the formula says */
 static void fit_paid(uint32_t lot)
 {
     struct crz_receipt_fields then = crz_get_receipt(zone, lot), now = crz_get_receipt(image, lot);
@@ -341,7 +342,14 @@ static void fit_paid(uint32_t lot)
         crz_put_u32(record + CRZ_RECEIPT_PAID, (uint32_t)crz_paid_of_rest(&now, now.confirmed));
 }
 
-/* frozen money and total follow a damaged record; whether they have moved */
+/* frozen money of an account, and the total with it */
+static void put_held(uint32_t account, uint64_t fen)
+{
+    add_to(frozen_of(image, account), fen);
+    add_to(image + CRZ_IMAGE_TOTAL, fen);
+}
+
+/* frozen money and total follow a damaged record; whether they have moved. What would be held from nobody is gone. */
 static int move_along(uint32_t lot)
 {
     struct crz_receipt_fields then = crz_get_receipt(zone, lot), now;
@@ -352,12 +360,10 @@ static int move_along(uint32_t lot)
     held_now = crz_held_money(&now);
     if (held_then == held_now && (then.buyer == now.buyer || held_now == 0))
         return 0;
-    if (!crz_is_place(now.buyer, CRZ_ACCOUNT_COUNT))
-        return 0;
     if (then.buyer != 0)
-        add_to(frozen_of(image, then.buyer), 0 - held_then);
-    add_to(frozen_of(image, now.buyer), held_now);
-    add_to(image + CRZ_IMAGE_TOTAL, held_now - held_then);
+        put_held(then.buyer, 0 - held_then);
+    if (crz_is_place(now.buyer, CRZ_ACCOUNT_COUNT))
+        put_held(now.buyer, held_now);
     return 1;
 }
 

@@ -72,7 +72,7 @@ uint64_t misplace_held(uint8_t *image);
 
 /* from its buyer's frozen money to that of its seller or of the account before the buyer (96 before 1), or to the
  * buyer's free money */
-enum held_to { TO_SELLER, TO_ACCOUNT_BEFORE, TO_FREE, HELD_TOS };
+enum held_to { TO_SELLER, TO_ACCOUNT_BEFORE, TO_FREE, HELD_PLACES };
 void move_held(uint8_t *image, uint32_t lot, enum held_to to);
 
 /* ── Counts (longrun_counts.c) ─────────────────────────────────────────────────────────────────── */

@@ -93,7 +93,7 @@ static unsigned long put_paid[CONFIRMEDS][VERDICTS][PAIDS];
 /* images that differ from a valid one in nothing but where the held money of a lot is: by the lot's state, from 2 on,
  * and those of lot 128 */
 enum { HOLDING = CRZ_STATE_FIRST_PAID - CRZ_STATE_BID_STANDS + 1, OF_LAST_LOT = HOLDING, HOLDERS };
-static unsigned long misplaced[HELD_TOS][VERDICTS][HOLDERS];
+static unsigned long misplaced[HELD_PLACES][VERDICTS][HOLDERS];
 
 /* quotes that struck two lots or more; with two at one price, at different prices, both; quotes that struck all lots */
 enum { SEVERAL, AT_ONE_PRICE, AT_DIFFERENT_PRICES, AT_BOTH, EVERY_LOT, QUOTES };
@@ -492,10 +492,10 @@ static void show_parts(void)
 
 static void show_misplaced(void)
 {
-    static const char *const names[HELD_TOS] = {"to the seller", "to account before", "to free money"};
+    static const char *const names[HELD_PLACES] = {"to the seller", "to account before", "to free money"};
     unsigned i;
     printf("%-22s %6s %6s %6s %6s %6s %6s\n", "held money, by state", "2", "3", "4", "5", "6", "lot128");
-    for (i = 0; i < HELD_TOS; i++) {
+    for (i = 0; i < HELD_PLACES; i++) {
         show_row(names[i], misplaced[i][0], "------");
         show_row("image is not valid", misplaced[i][1], "++++++");
     }

@@ -212,7 +212,7 @@ void move_held(uint8_t *image, uint32_t lot, enum held_to to)
     struct crz_receipt_fields receipt = crz_get_receipt(image, lot);
     uint32_t before = receipt.buyer == 1 ? CRZ_ACCOUNT_COUNT : receipt.buyer - 1;
     uint8_t *frozen = account_in(image, receipt.buyer) + CRZ_ACCOUNT_FROZEN;
-    uint8_t *const places[HELD_TOS] = {account_in(image, receipt.seller) + CRZ_ACCOUNT_FROZEN,
+    uint8_t *const places[HELD_PLACES] = {account_in(image, receipt.seller) + CRZ_ACCOUNT_FROZEN,
         account_in(image, before) + CRZ_ACCOUNT_FROZEN, account_in(image, receipt.buyer) + CRZ_ACCOUNT_FREE};
     uint64_t held = crz_held_money(&receipt);
     add_to(frozen, 0 - held);
@@ -234,7 +234,7 @@ uint64_t misplace_held(uint8_t *image)
 {
     int last = percent(20) && held_by(image, CRZ_RECEIPT_COUNT) != 0;
     uint32_t lot = last ? CRZ_RECEIPT_COUNT : some_holder(image);
-    enum held_to to = (enum held_to)below(HELD_TOS);
+    enum held_to to = (enum held_to)below(HELD_PLACES);
     if (lot != 0)
         move_held(image, lot, to);
     return lot;

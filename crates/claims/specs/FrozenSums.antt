@@ -19,8 +19,8 @@ use Rattle.verdict.specs.Sums.{frozenSums, validBySums}
 abbrev pub OneSumEach : Type 0
 OneSumEach = (image : List ℕ) → length (frozenSums image) ≡ accountCount
 
--- Of every image whose receipt records are valid: the sum of each account is what the lots hold from it, asked account by account as
--- validity does. Account suc p has its sum at place p, so that p goes through the accounts 1 to 96.
+-- Where every record is valid, the walk agrees with `heldSum`, by which validity asks for one account at a time. Account suc p has its sum
+-- at place p, so that p goes through the accounts 1 to 96.
 abbrev pub SumsAsked : Type 0
 SumsAsked =
     (image : List ℕ) → all recordValid (recordsIn image) ≡ true → (p : ℕ) → p < accountCount

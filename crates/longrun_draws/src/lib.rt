@@ -1,4 +1,4 @@
-// What the long runs draw from a seed: numbers, parties, prices, premiums and weights, pay-ins and take-outs. What a lot holds, moved.
+// What the long runs draw from a seed: numbers, parties, prices, premiums and weights, pay-ins and take-outs; and money that is moved from where a lot holds it.
 mod choices;
 mod draws;
 mod held;

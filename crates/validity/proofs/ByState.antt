@@ -58,7 +58,7 @@ module _ (r : Record) where
   unfolding listingOk bidOk dueOk ownerOk
   owing e = rw e (simp (or-false, and-true, and-assoc))
 
-  -- ── With owner, weight and premium in range ──
+  -- ── With state, owner, weight and premium in range ──
 
   pub fields-decide : keptOk r ≡ true → fieldsOk r ≡ fields
   unfolding fieldsOk

@@ -7,7 +7,7 @@ use Rattle.units.specs.Payments.{payable}
 use Rattle.units.specs.Ranges.{within, isZero, isAccount, isContract, isDays, isPrice, isBasis, isWeight, isPremium, lastDue}
 use Rattle.zone.specs.declared.Record.{Record}
 
--- what a registered receipt has in every state: one of the eight, an owner, a weight and a premium (01 Image 8, 02 2/12)
+-- what a registered receipt has in every state: one of the eight, an owner, a weight and a premium (01 Image 7, 15, 17, 02 2/12)
 abbrev pub keptOk : Record → Bool
 keptOk r = leb (r .state) 7 && isAccount (r .owner) && isWeight (r .weight .0) && isPremium (r .premium .0)
 

@@ -11,7 +11,7 @@ use Rattle.zone.specs.Valid.{blank, recordValid}
 use Rattle.image.specs.Table.{table}
 use Rattle.image.specs.Layout.{receiptRun, recordIn}
 
--- nobody has registered a record from n on
+-- the records from n on are blank
 pub record BlankFrom (s : List ℕ) (n : ℕ) : Type 0 where
   pub at : (k : ℕ) → n ≤ k → k < receiptCount → blank (recordIn (receiptRun s k)) ≡ true
 

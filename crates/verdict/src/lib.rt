@@ -162,7 +162,7 @@ fn no_hold() -> Hold
 }
 
 // What the lot of record k holds. A record that is not valid holds nothing and loses its mark. Marks are written for such records alone:
-// a flag for all of them, carried through the walk, costs it an eighth of its time.
+// a flag for all of them, carried through the walk, costs an eighth of a call.
 fn hold_at(image: &[u8], k: usize, valid: &mut [bool]) -> Hold
     requires { ⌜ (length (now image) ≡ imageLength) × (k < receiptCount) × (length (now valid) ≡ receiptCount) ⌝ }
     ensures { λ r. ⌜ (r ≡ validHold (recordIn (receiptRun (now (image .entry)) k))) × (now (valid .exit) ≡ marked (now (valid .entry)) k (recordValid (recordIn (receiptRun (now (image .entry)) k)))) ⌝ }
@@ -188,8 +188,8 @@ fn plus(sum: Fen, more: Fen) -> Fen
     Fen(sum.0 + more.0)
 }
 
-// What the lots hold from each account: one walk over them, from the last to the first, each adding to the account that it names. Of a
-// record that is not valid nothing is added, and its mark is taken away.
+// What the lots hold from each account, in one walk from the last record to the first: what a lot holds goes to the sum of its buyer. A
+// record that is not valid adds nothing and loses its mark.
 pub fn frozen_sums(image: &[u8], valid: &mut [bool]) -> [Fen; ACCOUNTS]
     requires { ⌜ (length (now image) ≡ imageLength) × (now valid ≡ replicate receiptCount true) ⌝ }
     ensures { λ r. ⌜ (r ≡ frozenSums (now (image .entry))) × (now (valid .exit) ≡ validRecords (now (image .entry))) ⌝ }

@@ -13,7 +13,7 @@ use Rattle.zone.specs.Laws.Held.{fenFrom-le}
 use Rattle.image.specs.Layout.{recordsIn}
 use Rattle.verdict.specs.Sums.{noHold, validHold}
 use Rattle.verdict.specs.Laws.Sums.{sums-length, asked, sum-is, hold-known, sum-held}
-use Rattle.verdict.specs.Laws.Verdict.{same-verdict}
+use Rattle.verdict.specs.Laws.Verdict.{by-sums}
 use Rattle.claims.specs.FrozenSums.{OneSumEach, SumsAsked, validOf, ValidAsked, SameVerdict}
 
 pub one-sum-each : OneSumEach
@@ -36,5 +36,5 @@ asked-valid x (r ∷ rs) = go (recordValid r) (asked-valid x rs)
 pub valid-asked : ValidAsked
 valid-asked image p h = ap fen (sum-is validHold hold-known (recordsIn image) p h ∙ asked-valid _ (recordsIn image))
 
-pub same : SameVerdict
-same image = same-verdict image
+pub same-verdict : SameVerdict
+same-verdict image = by-sums image

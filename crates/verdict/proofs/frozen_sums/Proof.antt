@@ -11,11 +11,10 @@ use Rattle.units.specs.Payments.{fen}
 use Rattle.units.specs.Laws.Bounds.{mostFull}
 use Rattle.units.specs.Ranges.{accountCount, receiptCount}
 use Rattle.zone.specs.Valid.{recordValid}
-use Rattle.image.specs.Layout.{receiptRun, recordIn}
 use Rattle.verdict.specs.Sums.{validHold, sumsBy}
 use Rattle.verdict.specs.Walk.{marksFrom, marked}
 use Rattle.verdict.specs.Laws.Sums.{sumAt, add-some, add-none, hold-known, hold-small}
-use Rattle.verdict.specs.Laws.Walk.{lastRecords, sums-start, sums-turn, sum-room, marks-start, marks-turn, marks-end, marks-length}
+use Rattle.verdict.specs.Laws.Walk.{rec, lastRecords, sums-start, sums-turn, sum-room, marks-start, marks-turn, marks-end, marks-length}
 use borrow.Author.Needs.{needs}
 use Rattle.verdict.proofs.frozen_sums.Statement.{statement}
 use Rattle.verdict.proofs.frozen_sums.Tie as tie
@@ -59,6 +58,16 @@ from-known c = rw (c .hold-at .ensures .0) (hold-known _)
 fen-small : (c : tie.After-hold-at Inv-loop μ-loop) → c .hold-at .result .fen .0 ≤ mostFull
 fen-small c = rw (c .hold-at .ensures .0) (hold-small _)
 
+-- the marks after a turn
+marked-next : (c : tie.After-hold-at Inv-loop μ-loop) →
+    let s = now (c .before .before .before .before .before .before .before .args .image) in
+    let l = c .before .before .before .loop in
+    marked (l .valid) (l .i - 1) (recordValid (rec s (l .i - 1))) ≡ marksFrom (l .i - 1) s
+marked-next c =
+    let s = now (c .before .before .before .before .before .before .before .args .image) in
+    let l = c .before .before .before .loop in
+    ap (λ (m : List Bool). marked m (l .i - 1) (recordValid (rec s (l .i - 1)))) (l .inv .2) ∙ marks-turn s (l .i) (omega arith) (omega arith)
+
 array-copy-out-plus : tie.Need-array-copy-out-plus Inv-loop μ-loop
 array-copy-out-plus c = omega (arith, from-known (c .before .before .before .before))
 
@@ -85,7 +94,7 @@ loop-again c =
           ∙ ap (λ (m : List Fen). set m (h .from - 1) (fen (sumAt m (h .from - 1) + h .fen .0))) (l .inv .1)
           ∙ sym (add-some (h .from) (h .fen .0) (sumsBy validHold (lastRecords s (l .i))) (c .before .before .if1 .taken))
           ∙ sums-turn s (l .i) (omega arith) (omega arith) h (c .before .before .before .before .before .before .hold-at .ensures .0),
-      c .before .before .before .before .before .before .hold-at .ensures .1 ∙ ap (λ (m : List Bool). marked m (l .i - 1) (recordValid (recordIn (receiptRun s (l .i - 1))))) (l .inv .2) ∙ marks-turn s (l .i) (omega arith) (omega arith),
+      c .before .before .before .before .before .before .hold-at .ensures .1 ∙ marked-next (c .before .before .before .before .before .before),
     )
 
 loop-less-2 : tie.Need-loop-less-2 Inv-loop μ-loop
@@ -99,7 +108,7 @@ loop-again-2 c =
       omega arith,
       l .inv .1 ∙ sym (add-none (h .from) (h .fen .0) (sumsBy validHold (lastRecords s (l .i))) (c .if1 .left))
           ∙ sums-turn s (l .i) (omega arith) (omega arith) h (c .before .before .before .before .hold-at .ensures .0),
-      c .before .before .before .before .hold-at .ensures .1 ∙ ap (λ (m : List Bool). marked m (l .i - 1) (recordValid (recordIn (receiptRun s (l .i - 1))))) (l .inv .2) ∙ marks-turn s (l .i) (omega arith) (omega arith),
+      c .before .before .before .before .hold-at .ensures .1 ∙ marked-next (c .before .before .before .before),
     )
 
 same-length : tie.Need-same-length Inv-loop μ-loop

@@ -1,5 +1,5 @@
 -- By the verdict on the record: what it holds, and its mark.
-use mathlib.Core.Bool.{true, false}
+use mathlib.Core.Bool.{Bool, true, false}
 use mathlib.Core.Path.{_≡_, sym, ap, _∙_}
 use native.Mathlib.Omega.{arith}
 use borrow.Author.Tests.{not-true, not-false}
@@ -18,6 +18,10 @@ use Rattle.verdict.proofs.hold_at.Tie as tie
 abbrev rec : (c : tie.Start) → Record
 rec c = recordIn (receiptRun (now (c .args .image)) (c .args .k))
 
+-- the marks, by the verdict on it
+mark-by : (c : tie.Start) {b : Bool} → recordValid (rec c) ≡ b → marked (now (c .args .valid)) (c .args .k) b ≡ marked (now (c .args .valid)) (c .args .k) (recordValid (rec c))
+mark-by c v = sym (ap (marked (now (c .args .valid)) (c .args .k)) v)
+
 owner-at-requires : tie.Need-owner-at-requires
 owner-at-requires c κs = search needs
 
@@ -30,7 +34,7 @@ no-hold-requires c κs = search needs
 returns : tie.Need-returns
 returns c =
     let h : blank (rec (c .before .before .before .before .before .before .before)) ≡ true = sym (c .before .before .blank-at .ensures) ∙ c .before .if2 .taken in
-    (c .no-hold .ensures ∙ sym (blank-hold _ h), sym (ap (marked (now (c .before .before .before .before .before .before .before .args .valid)) (c .before .before .before .before .before .before .before .args .k)) (blank-valid _ h)))
+    (c .no-hold .ensures ∙ sym (blank-hold _ h), mark-by (c .before .before .before .before .before .before .before) (blank-valid _ h))
 
 slice-write-valid : tie.Need-slice-write-valid
 slice-write-valid c = search needs
@@ -45,7 +49,7 @@ returns-2 : tie.Need-returns-2
 returns-2 c =
     let h : blank (rec (c .before .before .before .before .before .before .before)) ≡ false = sym (c .before .before .blank-at .ensures) ∙ c .before .if2 .left in
     let v : recordValid (rec (c .before .before .before .before .before .before .before)) ≡ false = unowned-valid _ (omega (arith, c .before .before .before .before .owner-at .ensures)) ∙ h in
-    (c .no-hold2 .ensures ∙ sym (hold-none _ v), sym (ap (marked (now (c .before .before .before .before .before .before .before .args .valid)) (c .before .before .before .before .before .before .before .args .k)) v))
+    (c .no-hold2 .ensures ∙ sym (hold-none _ v), mark-by (c .before .before .before .before .before .before .before) v)
 
 registered-ok-requires : tie.Need-registered-ok-requires
 registered-ok-requires c κs = search needs
@@ -62,7 +66,7 @@ same-length-2 c = search needs
 returns-3 : tie.Need-returns-3
 returns-3 c =
     let v : recordValid (rec (c .before .before .before .before .before .before .before)) ≡ false = sym (c .before .before .registered-ok .ensures) ∙ not-true _ (c .before .if3 .taken) in
-    (c .no-hold3 .ensures ∙ sym (hold-none _ v), sym (ap (marked (now (c .before .before .before .before .before .before .before .args .valid)) (c .before .before .before .before .before .before .before .args .k)) v))
+    (c .no-hold3 .ensures ∙ sym (hold-none _ v), mark-by (c .before .before .before .before .before .before .before) v)
 
 record-at-requires : tie.Need-record-at-requires
 record-at-requires c κs = search needs
@@ -73,7 +77,7 @@ hold-of-requires c κs = ap recordValid (c .record-at .ensures) ∙ sym (c .befo
 returns-4 : tie.Need-returns-4
 returns-4 c =
     let v : recordValid (rec (c .before .before .before .before .before .before .before .before)) ≡ true = sym (c .before .before .before .registered-ok .ensures) ∙ not-false _ (c .before .before .if3 .left) in
-    (c .hold-of .ensures ∙ ap holdOf (c .before .record-at .ensures) ∙ sym (hold-valid _ v), sym (ap (marked (now (c .before .before .before .before .before .before .before .before .args .valid)) (c .before .before .before .before .before .before .before .before .args .k)) v))
+    (c .hold-of .ensures ∙ ap holdOf (c .before .record-at .ensures) ∙ sym (hold-valid _ v), mark-by (c .before .before .before .before .before .before .before .before) v)
 
 pub hold-at-spec : {M : Type 1} → statement M
 hold-at-spec =

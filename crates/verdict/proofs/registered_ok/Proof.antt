@@ -1,4 +1,4 @@
--- Owner, weight and premium first; then each state is judged by its own tests.
+-- State, owner, weight and premium first; then each state is judged by its own tests.
 use mathlib.Core.Bool.{true, false, _&&_}
 use mathlib.Core.Logic.{_≢_}
 use mathlib.Core.Path.{_≡_, sym, ap, _∙_}

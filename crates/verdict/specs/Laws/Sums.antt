@@ -129,7 +129,7 @@ pub unowned-valid : (r : Record) → r .owner ≡ 0 → recordValid r ≡ blank 
 unfolding recordValid
 unowned-valid r e = rw (eq-eqb (r .owner) 0 e)
 
--- a record that nobody has registered is valid and holds nothing
+-- a blank record is valid and holds nothing
 pub blank-valid : (r : Record) → blank r ≡ true → recordValid r ≡ true
 blank-valid r b = ap recordValid (blank-is r b) ∙ none-valid
 
@@ -141,7 +141,7 @@ pub blank-hold : (r : Record) → blank r ≡ true → validHold r ≡ noHold
 blank-hold r b = ap validHold (blank-is r b) ∙ none-hold
 
 -- where all records are valid, the walk's question is the one of `heldSum`
-pub asked-held : (x : ℕ) (rs : List Record) → all recordValid rs ≡ true → asked validHold x rs ≡ heldSum (λ r. r) x rs
+asked-held : (x : ℕ) (rs : List Record) → all recordValid rs ≡ true → asked validHold x rs ≡ heldSum (λ r. r) x rs
 unfolding asked heldSum heldFrom all
 asked-held x [] h = refl
 asked-held x (r ∷ rs) h =

@@ -3,7 +3,7 @@
 use mathlib.Core.Bool.{Bool, true, false, not, _&&_, _||_, and-true, and-false, and-assoc, true≢false, false≢true}
 use mathlib.Core.List.{List, [], _∷_, _++_}
 use mathlib.Core.Logic.{_≢_}
-use mathlib.Core.Path.{_≡_, refl, sym, ap, _∙_}
+use mathlib.Core.Path.{_≡_, refl, _∙_}
 use Prim.Native.Nat.{ℕ, zero, suc, _+_, _≤_, _<_}
 use native.Mathlib.Decide.{ℕ-discrete}
 use native.Mathlib.Omega.{arith}
@@ -26,16 +26,6 @@ module _ {A : Type 0} (p : A → Bool) where
   all-one [] x = and-true (p x)
   all-one (y ∷ l) x = rw (all-one l x, and-assoc)
 
-  -- one element that does not pass
-  pub not-all : (n : ℕ) (f : ℕ → A) (k : ℕ) → k < n → p (f k) ≡ false → all p (table n f) ≡ false
-  unfolding table
-  not-all zero f k h e = absurd (omega arith)
-  not-all (suc n) f k h e = all-one (table n f) (f n) ∙ go (ℕ-discrete k n) (λ l. not-all n f k l e)
-    where
-      go : Dec (k ≡ n) → (k < n → all p (table n f) ≡ false) → all p (table n f) && p (f n) ≡ false
-      go (yes q) ih = ap (λ (b : Bool). all p (table n f) && b) (ap (λ (i : ℕ). p (f i)) (sym q) ∙ e) ∙ and-false (all p (table n f))
-      go (no q) ih = ap (λ (b : Bool). b && p (f n)) (ih (omega arith))
-
 pub money-one : (l : List Account) (a : Account) → allMoney (l ++ (a ∷ [])) ≡ allMoney l + a .free .0 + a .frozen .0
 unfolding allMoney
 money-one [] a = omega arith
@@ -51,7 +41,7 @@ frozen-one p (b ∷ l) a sums =
     rw (frozen-one (suc p) l a sums, and-assoc, e)
 
 -- one account whose frozen money is not its sum
-pub frozen-not : (n : ℕ) (f : ℕ → Account) (sums : List Fen) (k : ℕ) → k < n → f k .frozen .0 ≢ getD sums k (fen 0) .0 →
+frozen-not : (n : ℕ) (f : ℕ → Account) (sums : List Fen) (k : ℕ) → k < n → f k .frozen .0 ≢ getD sums k (fen 0) .0 →
     frozenFrom 0 (table n f) sums ≡ false
 unfolding table
 frozen-not zero f sums k h o = absurd (omega arith)
@@ -72,7 +62,7 @@ frozen-not (suc n) f sums k h o =
     go (no q) ih = rw (ih (omega arith))
 
 -- the free money of one account is part of all money
-pub free-part : (n : ℕ) (f : ℕ → Account) (k : ℕ) → k < n → f k .free .0 ≤ allMoney (table n f)
+free-part : (n : ℕ) (f : ℕ → Account) (k : ℕ) → k < n → f k .free .0 ≤ allMoney (table n f)
 unfolding table
 free-part zero f k h = absurd (omega arith)
 free-part (suc n) f k h = rw (money-one (table n f) (f n)) (go (ℕ-discrete k n) (free-part n f k))

@@ -38,9 +38,9 @@ same-tests : (l h d a v f g m t : Bool) → (v ≡ true → f ≡ g) → l && h 
 same-tests l h d a true f g m t e = rw (e refl) (simp (and-true, and-assoc))
 same-tests l h d a false f g m t e = simp (and-false, and-assoc)
 
-pub same-verdict : (s : List ℕ) → validBySums s ≡ validImage s
+pub by-sums : (s : List ℕ) → validBySums s ≡ validImage s
 unfolding validBySums validImage booksOk
-same-verdict s =
+by-sums s =
     same-tests (eqb (length s) imageLength) (headerOk s) (within 1 lastDay (dayIn s)) (all askOk (asksIn s)) (all recordValid (recordsIn s))
     (frozenFrom 0 (accountsIn s) (frozenSums s)) (frozenOk (λ r. r) 1 (accountsIn s) (recordsIn s))
     (eqb (totalIn s) (allMoney (accountsIn s))) (leb (totalIn s) moneyLimit)
@@ -58,9 +58,9 @@ unfolding validBySums
 verdict s n t =
     let long = eq-eqb (length s) imageLength n in
     let small = le-leb (totalIn s) moneyLimit t in
-    rw (← same-verdict s, long, small) (regroup (headerOk s) (leb 1 (dayIn s)) (leb (dayIn s) lastDay) (all askOk (asksIn s)) (booksBySums s (totalIn s)))
+    rw (← by-sums s, long, small) (regroup (headerOk s) (leb 1 (dayIn s)) (leb (dayIn s) lastDay) (all askOk (asksIn s)) (booksBySums s (totalIn s)))
 
 -- a total above its limit
 pub over-limit : (s : List ℕ) → moneyLimit < totalIn s → validImage s ≡ false
 unfolding validBySums
-over-limit s t = rw (← same-verdict s, lt-leb (totalIn s) moneyLimit t, and-false)
+over-limit s t = rw (← by-sums s, lt-leb (totalIn s) moneyLimit t, and-false)

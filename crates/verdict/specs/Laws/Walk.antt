@@ -94,7 +94,7 @@ module _ (s : List ℕ) where
 
   -- ── The marks ──
 
-  abbrev pub mark : ℕ → ℕ → Bool
+  abbrev mark : ℕ → ℕ → Bool
   mark n k = ltb k n || recordValid (rec k)
 
   pub marks-length : (n : ℕ) → length (marksFrom n s) ≡ receiptCount
