@@ -1,19 +1,18 @@
 -- The sums that one walk over the lots hands back, and the validity test that goes by them (02 4/12), on bytes. `verdict::frozen_sums`
 -- promises `frozenSums`, and `verdict::image_ok` promises `validImage`. The proofs are in Laws/.
 -- Assumes nothing.
-use mathlib.Core.Bool.{true, cond}
-use mathlib.Core.List.{List, [], _∷_}
+use mathlib.Core.Bool.{true}
+use mathlib.Core.List.{List}
 use mathlib.Core.Path.{_≡_}
 use Prim.Native.Nat.{ℕ, suc, _<_}
 use lib.ListN.{length, getD}
 use Rattle.units.specs.Payments.{fen}
 use Rattle.units.specs.Ranges.{accountCount}
-use Rattle.zone.specs.declared.Record.{Record}
 use Rattle.zone.specs.Held.{heldSum}
 use Rattle.zone.specs.Valid.{all, recordValid}
 use Rattle.image.specs.Image.{validImage}
 use Rattle.image.specs.Layout.{recordsIn}
-use Rattle.verdict.specs.Sums.{frozenSums, validBySums}
+use Rattle.verdict.specs.Sums.{frozenSums, validOf, validBySums}
 
 -- of all bytes: there is one sum for each account, and none for nobody
 abbrev pub OneSumEach : Type 0
@@ -25,11 +24,6 @@ abbrev pub SumsAsked : Type 0
 SumsAsked =
     (image : List ℕ) → all recordValid (recordsIn image) ≡ true → (p : ℕ) → p < accountCount
     → getD (frozenSums image) p (fen 0) ≡ fen (heldSum (λ r. r) (suc p) (recordsIn image))
-
--- the valid ones among records
-unfoldable pub validOf : List Record → List Record
-validOf [] = []
-validOf (r ∷ rs) = cond (recordValid r) (r ∷ validOf rs) (validOf rs)
 
 -- of all bytes: the same, asked of the valid records; the others add nothing
 abbrev pub ValidAsked : Type 0

@@ -43,6 +43,11 @@ sumsBy holds (r ∷ rs) = addTo (holds r .from) (holds r .fen .0) (sumsBy holds 
 abbrev pub frozenSums : List ℕ → List Fen
 frozenSums s = sumsBy validHold (recordsIn s)
 
+-- the valid ones among records
+unfoldable pub validOf : List Record → List Record
+validOf [] = []
+validOf (r ∷ rs) = cond (recordValid r) (r ∷ validOf rs) (validOf rs)
+
 -- which records of an image are valid
 abbrev pub validRecords : List ℕ → List Bool
 validRecords s = map recordValid (recordsIn s)

@@ -22,7 +22,7 @@ use Rattle.zone.specs.Valid.{all, blank, recordValid, noReceipt}
 use Rattle.zone.specs.Laws.Facts.{blank-is, none-valid, bounds}
 use Rattle.zone.specs.Laws.Held.{held-le, fenFrom-same, fenFrom-other, fenFrom-le}
 use Rattle.zone.specs.Laws.Tests.{both}
-use Rattle.verdict.specs.Sums.{noHold, validHold, addTo, sumsBy}
+use Rattle.verdict.specs.Sums.{noHold, validHold, addTo, sumsBy, validOf}
 
 -- the sum at a place
 abbrev pub sumAt : List Fen → ℕ → ℕ
@@ -69,13 +69,13 @@ module _ (holds : Record → Hold) where
   sums-length (r ∷ rs) = length-add (holds r .from) (holds r .fen .0) (sumsBy holds rs) ∙ sums-length rs
 
   -- the amounts of one account x, asked of record after record
-  unfoldable pub asked : ℕ → List Record → ℕ
+  unfoldable asked : ℕ → List Record → ℕ
   asked x [] = 0
   asked x (r ∷ rs) = fenFrom x (holds r .from) (holds r .fen .0) + asked x rs
 
   module _ (known : (r : Record) → holds r .from ≤ accountCount) where
     -- the walk and the question about one account agree
-    pub sum-is : (rs : List Record) (p : ℕ) → p < accountCount → sumAt (sumsBy holds rs) p ≡ asked (suc p) rs
+    sum-is : (rs : List Record) (p : ℕ) → p < accountCount → sumAt (sumsBy holds rs) p ≡ asked (suc p) rs
     unfolding sumsBy asked
     sum-is [] p h = ap (λ (f : Fen). f .0) (getD-replicate accountCount p (fen 0) (fen 0) h)
     sum-is (r ∷ rs) p h =
@@ -140,14 +140,29 @@ none-hold = refl
 pub blank-hold : (r : Record) → blank r ≡ true → validHold r ≡ noHold
 blank-hold r b = ap validHold (blank-is r b) ∙ none-hold
 
--- where all records are valid, the walk's question is the one of `heldSum`
-asked-held : (x : ℕ) (rs : List Record) → all recordValid rs ≡ true → asked validHold x rs ≡ heldSum (λ r. r) x rs
-unfolding asked heldSum heldFrom all
-asked-held x [] h = refl
-asked-held x (r ∷ rs) h =
-    let t = both (recordValid r) (all recordValid rs) h in
-    rw (hold-valid r (t .0), asked-held x rs (t .1))
+-- the walk's question is that of `heldSum`, put to the valid records
+asked-valid : (x : ℕ) (rs : List Record) → asked validHold x rs ≡ heldSum (λ r. r) x (validOf rs)
+unfolding asked heldSum heldFrom validOf validHold
+asked-valid x [] = refl
+asked-valid x (r ∷ rs) = go (recordValid r) (asked-valid x rs)
+  where
+    go : (b : Bool) → asked validHold x rs ≡ heldSum (λ r. r) x (validOf rs) →
+        fenFrom x (cond b (holdOf r) noHold .from) (cond b (holdOf r) noHold .fen .0) + asked validHold x rs
+        ≡ heldSum (λ r. r) x (cond b (r ∷ validOf rs) (validOf rs))
+    go true ih = omega (arith, ih)
+    go false ih = omega (arith, fenFrom-le x 0 0, ih)
 
--- on valid records each sum is what the lots hold from its account
+-- each sum is what the valid ones hold from its account
+pub sum-valid : (rs : List Record) (p : ℕ) → p < accountCount → getD (sumsBy validHold rs) p (fen 0) ≡ fen (heldSum (λ r. r) (suc p) (validOf rs))
+sum-valid rs p h = ap fen (sum-is validHold hold-known rs p h ∙ asked-valid (suc p) rs)
+
+all-valid : (rs : List Record) → all recordValid rs ≡ true → validOf rs ≡ rs
+unfolding validOf all
+all-valid [] h = refl
+all-valid (r ∷ rs) h =
+    let t = both (recordValid r) (all recordValid rs) h in
+    rw (t .0, all-valid rs (t .1))
+
+-- and where all are valid, what the lots hold from it
 pub sum-held : (rs : List Record) → all recordValid rs ≡ true → (p : ℕ) → p < accountCount → getD (sumsBy validHold rs) p (fen 0) ≡ fen (heldSum (λ r. r) (suc p) rs)
-sum-held rs v p h = ap fen (sum-is validHold hold-known rs p h ∙ asked-held (suc p) rs v)
+sum-held rs v p h = sum-valid rs p h ∙ ap (λ (l : List Record). fen (heldSum (λ r. r) (suc p) l)) (all-valid rs v)

@@ -3,7 +3,7 @@
 use mathlib.Core.Bool.{Bool, true, false, not, _&&_, _||_, and-true, and-false, and-assoc, true≢false, false≢true}
 use mathlib.Core.List.{List, [], _∷_, _++_}
 use mathlib.Core.Logic.{_≢_}
-use mathlib.Core.Path.{_≡_, refl, _∙_}
+use mathlib.Core.Path.{_≡_, refl, subst, _∙_}
 use Prim.Native.Nat.{ℕ, zero, suc, _+_, _≤_, _<_}
 use native.Mathlib.Decide.{ℕ-discrete}
 use native.Mathlib.Omega.{arith}
@@ -40,36 +40,34 @@ frozen-one p (b ∷ l) a sums =
     let e : suc p + length l ≡ p + suc (length l) = omega arith in
     rw (frozen-one (suc p) l a sums, and-assoc, e)
 
--- one account whose frozen money is not its sum
-frozen-not : (n : ℕ) (f : ℕ → Account) (sums : List Fen) (k : ℕ) → k < n → f k .frozen .0 ≢ getD sums k (fen 0) .0 →
-    frozenFrom 0 (table n f) sums ≡ false
-unfolding table
-frozen-not zero f sums k h o = absurd (omega arith)
-frozen-not (suc n) f sums k h o =
-    frozen-one 0 (table n f) (f n) sums ∙ go (ℕ-discrete k n) (λ l. frozen-not n f sums k l o)
+-- what holds of a table that ends with element k, and still holds with one element more, holds of every table that has element k
+once-in : (P : ℕ → Type 0) (k : ℕ) → P (suc k) → ((n : ℕ) → P n → P (suc n)) → (n : ℕ) → k < n → P n
+once-in P k ends more zero h = absurd (omega arith)
+once-in P k ends more (suc n) h = go (ℕ-discrete k n) (λ l. once-in P k ends more n l)
   where
-    before : Bool
-    before = frozenFrom 0 (table n f) sums
+    go : Dec (k ≡ n) → (k < n → P n) → P (suc n)
+    go (yes e) ih = subst (λ (m : ℕ). P (suc m)) e ends
+    go (no e) ih = more n (ih (omega arith))
 
-    place : 0 + length (table n f) ≡ n
-    place = omega (arith, length-table n f)
+module _ (f : ℕ → Account) (k n : ℕ) (h : k < n) where
+  -- one account whose frozen money is not its sum
+  frozen-not : (sums : List Fen) → f k .frozen .0 ≢ getD sums k (fen 0) .0 → frozenFrom 0 (table n f) sums ≡ false
+  unfolding table
+  frozen-not sums o =
+      let place : 0 + length (table k f) ≡ k = omega (arith, length-table k f) in
+      once-in (λ n. frozenFrom 0 (table n f) sums ≡ false) k
+      (frozen-one 0 (table k f) (f k) sums ∙ rw (place, ne-eqb _ _ o, and-false))
+      (λ n e. frozen-one 0 (table n f) (f n) sums ∙ rw e)
+      n h
 
-    test : ℕ → Bool
-    test i = eqb (f n .frozen .0) (getD sums i (fen 0) .0)
-
-    go : Dec (k ≡ n) → (k < n → before ≡ false) → before && test (0 + length (table n f)) ≡ false
-    go (yes q) ih = rw (place, ne-eqb _ _ (rw q at o), and-false)
-    go (no q) ih = rw (ih (omega arith))
-
--- the free money of one account is part of all money
-free-part : (n : ℕ) (f : ℕ → Account) (k : ℕ) → k < n → f k .free .0 ≤ allMoney (table n f)
-unfolding table
-free-part zero f k h = absurd (omega arith)
-free-part (suc n) f k h = rw (money-one (table n f) (f n)) (go (ℕ-discrete k n) (free-part n f k))
-  where
-    go : Dec (k ≡ n) → (k < n → f k .free .0 ≤ allMoney (table n f)) → f k .free .0 ≤ allMoney (table n f) + f n .free .0 + f n .frozen .0
-    go (yes q) ih = rw q (omega arith)
-    go (no q) ih = omega (arith, ih (omega arith))
+  -- the free money of one account is part of all money
+  free-part : f k .free .0 ≤ allMoney (table n f)
+  unfolding table
+  free-part =
+      once-in (λ n. f k .free .0 ≤ allMoney (table n f)) k
+      (rw (money-one (table k f) (f k)) (omega arith))
+      (λ n l. rw (money-one (table n f) (f n)) (omega (arith, l)))
+      n h
 
 -- ── One account's test ─────────────────────────────────────────────────────────────────────────
 
@@ -87,9 +85,9 @@ account-refused n f sums total k h t r = go (ltb moneyLimit (f k .free .0)) refl
 
     go : (b : Bool) → ltb moneyLimit (f k .free .0) ≡ b → frozen && eqb total (allMoney (table n f)) ≡ false
     go true e =
-        let m = free-part n f k h in
+        let m = free-part f k n h in
         rw (ne-eqb total (allMoney (table n f)) (λ z. omega (arith, m, ltb-true moneyLimit (f k .free .0) e)), and-false)
-    go false e = rw (frozen-not n f sums k h (λ z. false≢true (rw (e, eq-eqb _ _ z) at r)))
+    go false e = rw (frozen-not f k n h sums (λ z. false≢true (rw (e, eq-eqb _ _ z) at r)))
 
 -- what the test tells of an account that passes it
 pub record Passed (a : Account) (held : ℕ) : Type 0 where
