@@ -8,7 +8,7 @@
  * while a call is made on it. On x86-64 each entry takes less than 16 KB of the caller's stack, whatever the kind and
  * the image.
  *
- * Numbers in the image, the call and the answer are little-endian; i32 is two's complement. Accounts, receipts and
+ * Numbers in the image, the calls and the answers are little-endian; i32 is two's complement. Accounts, receipts and
  * contracts count from 1, and a lot has the number of its receipt. crz_records.h reads and writes the records.
  *
  * Each family of names has one prefix:
@@ -36,9 +36,9 @@ extern "C" {
 /* ── Version of this interface ─────────────────────────────────────────────────────────────────── */
 
 #define CRZ_VERSION_MAJOR 3
-#define CRZ_VERSION_MINOR 0
-#define CRZ_VERSION_PATCH 1
-#define CRZ_VERSION "3.0.1"
+#define CRZ_VERSION_MINOR 1
+#define CRZ_VERSION_PATCH 0
+#define CRZ_VERSION "3.1.0"
 
 /* ── Lengths and counts ────────────────────────────────────────────────────────────────────────── */
 
@@ -54,6 +54,7 @@ extern "C" {
 #define CRZ_RECEIPT_COUNT 128
 #define CRZ_CONTRACT_COUNT 8
 #define CRZ_ENTRY_COUNT 128 /* at most, in one answer */
+#define CRZ_TABLE_COUNT 32 /* calls at most, in one table */
 
 /* ── Ranges and fixed sums ─────────────────────────────────────────────────────────────────────── */
 
@@ -96,7 +97,8 @@ enum crz_number {
     CRZ_NUMBER_NOTHING_TO_PAY = 10, /* price (limit bid) or ask (market bid) + basis + premium below 1 */
     CRZ_NUMBER_NO_MONEY = 11,       /* free money under the amount (take out) or the deposit (bids) */
     CRZ_NUMBER_OVER_LIMIT = 12,     /* total would pass 10^15 fen */
-    CRZ_NUMBER_OVER_INVOICE = 13    /* invoice above full payment less confirmed */
+    CRZ_NUMBER_OVER_INVOICE = 13,   /* invoice above full payment less confirmed */
+    CRZ_NUMBER_BAD_TABLE = 14       /* of crz_table alone, by the lengths of its buffers; nothing is read or written */
 };
 
 /* ── Call: 24 bytes. Fields that a kind does not use are zero. ─────────────────────────────────── */
@@ -256,6 +258,20 @@ uint32_t crz_fresh(uint8_t *image, size_t image_len);
  */
 uint32_t crz_call(uint8_t *image, size_t image_len, const uint8_t *call, size_t call_len, uint8_t *answer,
                   size_t answer_len);
+
+/*
+ * Makes the calls of a table on an image: records of 24 bytes, one behind the other, at most CRZ_TABLE_COUNT of them.
+ * Each call finds the image that the one before it left, and has 1,040 bytes of the answers for itself: those of call i,
+ * counted from 0, begin at byte 1,040 x i. Image and answers are those of as many calls of crz_call, made in the same
+ * order: a refused call has its number in byte 0 of its own answer, and those behind it are made all the same. A table
+ * without calls changes nothing. Bytes past the last answer keep their content.
+ *
+ * Returns 0, whatever the numbers of its calls; where the image is not valid, each answer has 2. Or returns 14, where
+ * there are more than CRZ_TABLE_COUNT calls, calls_len is no multiple of 24, or answers_len is below 1,040 for each
+ * call. That is decided by the lengths alone: nothing is read or written then.
+ */
+uint32_t crz_table(uint8_t *image, size_t image_len, const uint8_t *calls, size_t calls_len, uint8_t *answers,
+                   size_t answers_len);
 
 #ifdef __cplusplus
 }

@@ -243,6 +243,20 @@ static inline struct crz_entry_fields crz_get_entry(const uint8_t answer[CRZ_ANS
     return fields;
 }
 
+/* ── Tables of calls ───────────────────────────────────────────────────────────────────────────── */
+
+/* Where a call begins in a table, and its own answer in the answers. Places count from 0. */
+
+static inline size_t crz_call_offset(size_t place)
+{
+    return place * CRZ_CALL_LENGTH;
+}
+
+static inline size_t crz_answer_offset(size_t place)
+{
+    return place * CRZ_ANSWER_LENGTH;
+}
+
 /* ── Images ────────────────────────────────────────────────────────────────────────────────────── */
 
 /* Where a record begins in an image. Accounts, contracts and receipts count from 1. */

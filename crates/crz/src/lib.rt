@@ -11,11 +11,14 @@ ghost use Rattle.answers.specs.Buffers.{answerLength, acceptedAnswer};
 ghost use Rattle.crz.specs.Fresh.{freshEntry};
 ghost use Rattle.crz.specs.Returned.{callWith, callEntry};
 use answers::ANSWER_LENGTH;
+use answers::CALL_LENGTH;
+use answers::MOST_CALLS;
 use image::IMAGE_LENGTH;
 use rules::AtLot;
 use rules::Call;
 use rules::NUMBER_ACCEPTED;
 use rules::NUMBER_BAD_IMAGE;
+use rules::NUMBER_BAD_TABLE;
 use rules::NUMBER_SHORT_ANSWER;
 use rules::Step;
 
@@ -31,14 +34,15 @@ fn carry_out(image: &mut [u8], answer: &mut [u8], c: Call, at: AtLot) -> u32
     NUMBER_ACCEPTED as u32
 }
 
-// A call given by its fields.
-pub fn make_call(image: &mut [u8], c: Call, answer: &mut [u8]) -> u32
+// A call given by its fields, on an image whose verdict is known.
+pub fn make_call(image: &mut [u8], valid: bool, c: Call, answer: &mut [u8]) -> u32
+    requires { ⌜ valid ≡ validImage (now image) ⌝ }
     ensures { λ r. ⌜ (r, now (image .exit), now (answer .exit)) ≡ callWith (now (image .entry)) c (now (answer .entry)) ⌝ }
 {
     if answer.len() < ANSWER_LENGTH {
         return NUMBER_SHORT_ANSWER as u32;
     }
-    if !verdict::image_ok(image) {
+    if !valid {
         return answers::refuse(answer, NUMBER_BAD_IMAGE);
     }
     let step = lots::step_of(image, c);
@@ -53,8 +57,53 @@ pub fn make_call(image: &mut [u8], c: Call, answer: &mut [u8]) -> u32
 pub extern "C" fn crz_call(image: &mut [u8], call: &[u8], answer: &mut [u8]) -> u32
     ensures { λ r. ⌜ (r, now (image .exit), now (answer .exit)) ≡ callEntry (now (image .entry)) (now (call .entry)) (now (answer .entry)) ⌝ }
 {
-    make_call(image, answers::read_call(call), answer)
+    let valid = verdict::image_ok(image);
+    make_call(image, valid, answers::read_call(call), answer)
 }
+
+// ── A table of calls ────────────────────────────────────────────────────────────────────────────
+
+// The calls in turn, each with its own part of the answers.
+fn make_calls(image: &mut [u8], valid: bool, calls: &[Call], answers: &mut [u8]) {
+    let mut i: usize = 0;
+    while i < calls.len() {
+        let at = i * ANSWER_LENGTH;
+        let end = at + ANSWER_LENGTH;
+        make_call(image, valid, calls[i], &mut answers[at..end]);
+        i += 1;
+    }
+}
+
+// The first `count` calls of an array, lent as a slice.
+fn make_first(
+    image: &mut [u8],
+    valid: bool,
+    calls: [Call; MOST_CALLS],
+    count: usize,
+    answers: &mut [u8],
+) {
+    make_calls(image, valid, &calls[..count], answers);
+}
+
+// Whether a table of so many bytes is taken with answers of so many.
+fn table_fits(calls: usize, answers: usize) -> bool {
+    let count = calls / CALL_LENGTH;
+    (calls % CALL_LENGTH == 0) & (count <= MOST_CALLS) & (count <= answers / ANSWER_LENGTH)
+}
+
+// Makes a table of calls on an image, each with its own answer, and returns 0; 14 for lengths that do not fit, and nothing is written.
+#[no_mangle]
+pub extern "C" fn crz_table(image: &mut [u8], calls: &[u8], answers: &mut [u8]) -> u32 {
+    if !table_fits(calls.len(), answers.len()) {
+        return NUMBER_BAD_TABLE as u32;
+    }
+    let valid = verdict::image_ok(image);
+    let count = calls.len() / CALL_LENGTH;
+    make_first(image, valid, answers::read_calls(calls), count, answers);
+    NUMBER_ACCEPTED as u32
+}
+
+// ── A fresh image ───────────────────────────────────────────────────────────────────────────────
 
 // Writes a fresh image and returns 0; a buffer of another length than an image's is left as it is, with 2.
 #[no_mangle]

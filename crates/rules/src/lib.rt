@@ -102,6 +102,8 @@ pub const NUMBER_OVER_LIMIT: u8 = 12;
 
 pub const NUMBER_OVER_INVOICE: u8 = 13;
 
+pub const NUMBER_BAD_TABLE: u8 = 14;
+
 // ── Values ──────────────────────────────────────────────────────────────────────────────────────
 
 // A call record, field by field; `spare` is the number of its three zero bytes as they came, `basis` the premium where a receipt is
