@@ -1,9 +1,9 @@
--- The call record and the answer buffer as bytes (01 Calls 2, Answers 1 to 3, 25). Every length and place is named here once; src/lib.rt has
+-- Call records and the answer buffer as bytes (01 Calls 2, Answers 1 to 3, 25). Every length and place is named here once; src/lib.rt has
 -- a const for each.
 -- Assumes nothing.
 use mathlib.Core.Bool.{Bool, cond}
 use mathlib.Core.List.{List, [], _∷_, _++_}
-use Prim.Native.Nat.{ℕ, _+_, _-_, _*_}
+use Prim.Native.Nat.{ℕ, _+_, _-_, _*_, _/_}
 use lib.Dec.{eqb}
 use lib.IntN.{pos}
 use lib.ListN.{length, getD, drop, replicate}
@@ -47,6 +47,10 @@ callWeightPlace = callBasisPlace + 4
 
 abbrev pub callLength : ℕ
 callLength = callWeightPlace + 4
+
+-- a table of calls has no more than these (02 5/12)
+abbrev pub mostCalls : ℕ
+mostCalls = 32
 
 -- the header of an answer: two single bytes, the count of two, the offset of four, the total of eight
 abbrev pub answerNumberPlace : ℕ
@@ -119,6 +123,16 @@ noCall =
 -- what the code makes of a record of any length
 unfoldable pub callOrNone : List ℕ → Call
 callOrNone b = cond (eqb (length b) callLength) (callIn b) noCall
+
+-- ── A table of call records (02 5/12) ──────────────────────────────────────────────────────────
+
+-- how many whole records its bytes have
+abbrev pub callCount : List ℕ → ℕ
+callCount b = length b / callLength
+
+-- the records, one behind the other
+unfoldable pub callRecords : List ℕ → List (List ℕ)
+callRecords b = table (callCount b) (runAt 0 callLength b)
 
 -- ── The answer ─────────────────────────────────────────────────────────────────────────────────
 

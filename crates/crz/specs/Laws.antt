@@ -1,2 +1,4 @@
 pub mod Returned
 pub mod Numbers
+pub mod Valid
+pub mod CallTable

@@ -1,3 +1,4 @@
 pub mod Fresh
 pub mod Returned
+pub mod CallTable
 pub mod Laws

@@ -1,13 +1,14 @@
 // The entries that a C host calls.
 ghost use mathlib.Core.Bool.{true};
 ghost use mathlib.Core.Path.{_≡_};
-ghost use Prim.Native.Nat.{_≤_};
-ghost use lib.ListN.{length};
+ghost use Prim.Native.Nat.{_*_, _≤_};
+ghost use lib.ListN.{length, take};
 ghost use Rattle.image.specs.Image.{validImage, decode, encode};
 ghost use Rattle.rules.specs.declared.Step.the-variants.{Accepted};
 ghost use Rattle.rules.specs.Effects.{effect};
 ghost use Rattle.rules.specs.Steps.{stepOn};
-ghost use Rattle.answers.specs.Buffers.{answerLength, acceptedAnswer};
+ghost use Rattle.answers.specs.Buffers.{mostCalls, answerLength, acceptedAnswer};
+ghost use Rattle.crz.specs.CallTable.{inTurn, tableFits, tableEntry};
 ghost use Rattle.crz.specs.Fresh.{freshEntry};
 ghost use Rattle.crz.specs.Returned.{callWith, callEntry};
 use answers::ANSWER_LENGTH;
@@ -63,8 +64,11 @@ pub extern "C" fn crz_call(image: &mut [u8], call: &[u8], answer: &mut [u8]) -> 
 
 // ── A table of calls ────────────────────────────────────────────────────────────────────────────
 
-// The calls in turn, each with its own part of the answers.
-fn make_calls(image: &mut [u8], valid: bool, calls: &[Call], answers: &mut [u8]) {
+// Calls in turn, each with its own part of the answers.
+fn make_calls(image: &mut [u8], valid: bool, calls: &[Call], answers: &mut [u8])
+    requires { ⌜ (valid ≡ validImage (now image)) × (length (now calls) * answerLength ≤ length (now answers)) ⌝ }
+    ensures { λ _. ⌜ (now (image .exit), now (answers .exit)) ≡ inTurn callWith (now (image .entry)) (now (calls .entry)) (now (answers .entry)) ⌝ }
+{
     let mut i: usize = 0;
     while i < calls.len() {
         let at = i * ANSWER_LENGTH;
@@ -75,25 +79,27 @@ fn make_calls(image: &mut [u8], valid: bool, calls: &[Call], answers: &mut [u8])
 }
 
 // The first `count` calls of an array, lent as a slice.
-fn make_first(
-    image: &mut [u8],
-    valid: bool,
-    calls: [Call; MOST_CALLS],
-    count: usize,
-    answers: &mut [u8],
-) {
+fn make_first(image: &mut [u8], valid: bool, calls: [Call; MOST_CALLS], count: usize, answers: &mut [u8])
+    requires { ⌜ (valid ≡ validImage (now image)) × (count ≤ mostCalls) × (count * answerLength ≤ length (now answers)) ⌝ }
+    ensures { λ _. ⌜ (now (image .exit), now (answers .exit)) ≡ inTurn callWith (now (image .entry)) (take count calls) (now (answers .entry)) ⌝ }
+{
     make_calls(image, valid, &calls[..count], answers);
 }
 
-// Whether a table of so many bytes is taken with answers of so many.
-fn table_fits(calls: usize, answers: usize) -> bool {
+// Whether a table of so many bytes is taken, with answers of so many.
+fn table_fits(calls: usize, answers: usize) -> bool
+    ensures { λ r. ⌜ r ≡ tableFits calls answers ⌝ }
+{
     let count = calls / CALL_LENGTH;
     (calls % CALL_LENGTH == 0) & (count <= MOST_CALLS) & (count <= answers / ANSWER_LENGTH)
 }
 
-// Makes a table of calls on an image, each with its own answer, and returns 0; 14 for lengths that do not fit, and nothing is written.
+// Makes a table of calls on an image and returns 0, with the number of each in its own answer; or 14, by the lengths alone, and leaves all
+// buffers as they are.
 #[no_mangle]
-pub extern "C" fn crz_table(image: &mut [u8], calls: &[u8], answers: &mut [u8]) -> u32 {
+pub extern "C" fn crz_table(image: &mut [u8], calls: &[u8], answers: &mut [u8]) -> u32
+    ensures { λ r. ⌜ (r, now (image .exit), now (answers .exit)) ≡ tableEntry (now (image .entry)) (now (calls .entry)) (now (answers .entry)) ⌝ }
+{
     if !table_fits(calls.len(), answers.len()) {
         return NUMBER_BAD_TABLE as u32;
     }

@@ -1,4 +1,4 @@
--- The call of the record, and what `make_call` returns for it.
+-- The image judged, the call of the record, and what `make_call` returns for it.
 use denote.Ref.{now}
 use mathlib.Core.Path.{ap, _∙_}
 use Rattle.rules.specs.declared.Call.{Call}
@@ -7,6 +7,9 @@ use Rattle.crz.specs.Returned.{callWith}
 use borrow.Author.Needs.{needs}
 use Rattle.crz.proofs.crz_call.Statement.{statement}
 use Rattle.crz.proofs.crz_call.Tie as tie
+
+image-ok-requires : tie.Need-image-ok-requires
+image-ok-requires c κs = search needs
 
 read-call-requires : tie.Need-read-call-requires
 read-call-requires c κs = search needs
@@ -22,8 +25,9 @@ same-length-2 c = search needs
 
 returns : tie.Need-returns
 returns c =
-    c .before .before .before .before .make-call .ensures ∙ ap (λ (k : Call). callWith (now (c .before .before .before .before .before .before .before .before .before .before .before .args .image)) k (now (c .before .before .before .before .before .before .before .before .before .before .before .args .answer))) (c .before .before .before .before .before .before .read-call .ensures)
-    ∙ record-call (now (c .before .before .before .before .before .before .before .before .before .before .before .args .image)) (now (c .before .before .before .before .before .before .before .before .before .before .before .args .call)) (now (c .before .before .before .before .before .before .before .before .before .before .before .args .answer))
+    let a = c .before .before .before .before .before .before .before .before .before .before .before .before .before .args in
+    c .before .before .before .before .make-call .ensures ∙ ap (λ (k : Call). callWith (now (a .image)) k (now (a .answer))) (c .before .before .before .before .before .before .read-call .ensures)
+    ∙ record-call (now (a .image)) (now (a .call)) (now (a .answer))
 
 pub crz-call-spec : {M : Type 1} → statement M
-crz-call-spec = tie.close (tie.spec read-call-requires make-call-requires same-length same-length-2 returns)
+crz-call-spec = tie.close (tie.spec image-ok-requires read-call-requires make-call-requires same-length same-length-2 returns)

@@ -12,17 +12,16 @@ use borrow.Author.Needs.{needs}
 use Rattle.crz.proofs.make_call.Statement.{statement}
 use Rattle.crz.proofs.make_call.Tie as tie
 
-valid : (c : tie.Else2) → validImage (now (c .before .before .before .before .before .before .args .image)) ≡ true
-valid c = sym (c .before .image-ok .ensures) ∙ not-false _ (c .if2 .left)
+valid : (c : tie.Else2) → validImage (now (c .before .before .before .before .args .image)) ≡ true
+valid c = sym (c .before .before .before .before .pre) ∙ not-false _ (c .if2 .left)
 
 cast-result : tie.Need-cast-result
 cast-result c = search needs
 
 returns : tie.Need-returns
-returns c = refused-with (now (c .before .before .before .args .image)) (c .before .before .before .args .c) (now (c .before .before .before .args .answer)) 1 _ (sym (short-with (now (c .before .before .before .args .image)) (c .before .before .before .args .c) (now (c .before .before .before .args .answer)) (c .if1 .taken))) (omega arith) (sym (refusal-short (now (c .before .before .before .args .answer))))
-
-image-ok-requires : tie.Need-image-ok-requires
-image-ok-requires c κs = search needs
+returns c =
+    let a = c .before .before .before .args in
+    refused-with (now (a .image)) (a .c) (now (a .answer)) 1 _ (sym (short-with (now (a .image)) (a .c) (now (a .answer)) (c .if1 .taken))) (omega arith) (sym (refusal-short (now (a .answer))))
 
 refuse-requires : tie.Need-refuse-requires
 refuse-requires c κs = search needs
@@ -30,18 +29,16 @@ refuse-requires c κs = search needs
 same-length : tie.Need-same-length
 same-length c = search needs
 
-same-length-2 : tie.Need-same-length-2
-same-length-2 c = search needs
-
 returns-2 : tie.Need-returns-2
 returns-2 c =
-    let v : validImage (now (c .before .before .before .before .before .before .before .before .before .before .args .image)) ≡ false = sym (c .before .before .before .before .before .image-ok .ensures) ∙ not-true _ (c .before .before .before .before .if2 .taken) in
+    let a = c .before .before .before .before .before .before .before .before .args in
+    let v : validImage (now (a .image)) ≡ false = sym (c .before .before .before .before .before .before .before .before .pre) ∙ not-true _ (c .before .before .before .before .if2 .taken) in
     let e = c .before .before .refuse .ensures .0 in
-    refused-with (now (c .before .before .before .before .before .before .before .before .before .before .args .image)) (c .before .before .before .before .before .before .before .before .before .before .args .c) (now (c .before .before .before .before .before .before .before .before .before .before .args .answer)) _ _ (e ∙ sym (image-with (now (c .before .before .before .before .before .before .before .before .before .before .args .image)) (c .before .before .before .before .before .before .before .before .before .before .args .c) (now (c .before .before .before .before .before .before .before .before .before .before .args .answer)) (c .before .before .before .before .before .before .before .if1 .left) v))
-    (λ z. omega (arith, e)) (refusal-written 2 _ (now (c .before .before .before .before .before .before .before .before .before .before .args .answer)) _ e (omega arith) (c .before .before .refuse .ensures .1))
+    refused-with (now (a .image)) (a .c) (now (a .answer)) _ _ (e ∙ sym (image-with (now (a .image)) (a .c) (now (a .answer)) (c .before .before .before .before .before .if1 .left) v))
+    (λ z. omega (arith, e)) (refusal-written 2 _ (now (a .answer)) _ e (omega arith) (c .before .before .refuse .ensures .1))
 
 step-of-requires : tie.Need-step-of-requires
-step-of-requires c κs = sym (c .before .before .image-ok .ensures) ∙ not-false _ (c .before .if2 .left)
+step-of-requires c κs = valid (c .before)
 
 enum-known-step : tie.Need-enum-known-step
 enum-known-step c = search needs
@@ -53,33 +50,34 @@ enum-known-step-2 : tie.Need-enum-known-step-2
 enum-known-step-2 c = search needs
 
 carry-out-requires : tie.Need-carry-out-requires
-carry-out-requires c κs = (c .before .before .before .before .before .before .before .before .before .before .if1 .left, valid (c .before .before .before .before .before .before .before), sym (c .before .before .before .before .before .step-of .ensures) ∙ c .before .before .before .step2 .given .1)
+carry-out-requires c κs = (c .before .before .before .before .before .before .before .before .if1 .left, valid (c .before .before .before .before .before .before .before), sym (c .before .before .before .before .before .step-of .ensures) ∙ c .before .before .before .step2 .given .1)
+
+same-length-2 : tie.Need-same-length-2
+same-length-2 c = search needs
 
 same-length-3 : tie.Need-same-length-3
 same-length-3 c = search needs
 
-same-length-4 : tie.Need-same-length-4
-same-length-4 c = search needs
-
 returns-3 : tie.Need-returns-3
 returns-3 c =
-    let R = refused-by (decode (now (c .before .before .before .before .before .before .before .before .before .before .before .before .before .before .before .args .image))) (c .before .before .before .before .before .before .before .before .before .before .before .before .before .before .before .args .c) _ (sym (c .before .before .before .before .before .before .before .step-of .ensures) ∙ c .before .before .before .before .before .step .given .1) in
+    let a = c .before .before .before .before .before .before .before .before .before .before .before .before .before .args in
+    let R = refused-by (decode (now (a .image))) (a .c) _ (sym (c .before .before .before .before .before .before .before .step-of .ensures) ∙ c .before .before .before .before .before .step .given .1) in
     let e = c .before .before .refuse2 .ensures .0 in
-    refused-with (now (c .before .before .before .before .before .before .before .before .before .before .before .before .before .before .before .args .image)) (c .before .before .before .before .before .before .before .before .before .before .before .before .before .before .before .args .c) (now (c .before .before .before .before .before .before .before .before .before .before .before .before .before .before .before .args .answer)) _ _ (e ∙ sym (R .number) ∙ sym (call-with (now (c .before .before .before .before .before .before .before .before .before .before .before .before .before .before .before .args .image)) (c .before .before .before .before .before .before .before .before .before .before .before .before .before .before .before .args .c) (now (c .before .before .before .before .before .before .before .before .before .before .before .before .before .before .before .args .answer)) (c .before .before .before .before .before .before .before .before .before .before .before .before .if1 .left) (valid (c .before .before .before .before .before .before .before .before .before))))
-    (λ z. omega (arith, e, R .high)) (refusal-written _ _ (now (c .before .before .before .before .before .before .before .before .before .before .before .before .before .before .before .args .answer)) _ e (λ o. omega (arith, R .high)) (c .before .before .refuse2 .ensures .1))
+    refused-with (now (a .image)) (a .c) (now (a .answer)) _ _ (e ∙ sym (R .number) ∙ sym (call-with (now (a .image)) (a .c) (now (a .answer)) (c .before .before .before .before .before .before .before .before .before .before .if1 .left) (valid (c .before .before .before .before .before .before .before .before .before))))
+    (λ z. omega (arith, e, R .high)) (refusal-written _ _ (now (a .answer)) _ e (λ o. omega (arith, R .high)) (c .before .before .refuse2 .ensures .1))
+
+same-length-4 : tie.Need-same-length-4
+same-length-4 c = search needs
 
 same-length-5 : tie.Need-same-length-5
 same-length-5 c = search needs
 
-same-length-6 : tie.Need-same-length-6
-same-length-6 c = search needs
-
 returns-4 : tie.Need-returns-4
 returns-4 c =
-    let z = decode (now (c .before .before .before .before .before .before .before .before .before .before .before .before .before .before .before .before .before .before .args .image)) in
-    let P = accepted-as z (c .before .before .before .before .before .before .before .before .before .before .before .before .before .before .before .before .before .before .args .c) _ (sym (c .before .before .before .before .before .before .before .before .before .before .step-of .ensures) ∙ c .before .before .before .before .before .before .before .before .step2 .given .1) in
+    let a = c .before .before .before .before .before .before .before .before .before .before .before .before .before .before .before .before .args in
+    let P = accepted-as (decode (now (a .image))) (a .c) _ (sym (c .before .before .before .before .before .before .before .before .before .before .step-of .ensures) ∙ c .before .before .before .before .before .before .before .before .step2 .given .1) in
     let e = c .before .before .before .before .carry-out .ensures in
-    done-with (now (c .before .before .before .before .before .before .before .before .before .before .before .before .before .before .before .before .before .before .args .image)) (c .before .before .before .before .before .before .before .before .before .before .before .before .before .before .before .before .before .before .args .c) (now (c .before .before .before .before .before .before .before .before .before .before .before .before .before .before .before .before .before .before .args .answer)) _ _ _ (e .0) (sym (P .number) ∙ sym (call-with (now (c .before .before .before .before .before .before .before .before .before .before .before .before .before .before .before .before .before .before .args .image)) (c .before .before .before .before .before .before .before .before .before .before .before .before .before .before .before .before .before .before .args .c) (now (c .before .before .before .before .before .before .before .before .before .before .before .before .before .before .before .before .before .before .args .answer)) (c .before .before .before .before .before .before .before .before .before .before .before .before .before .before .before .if1 .left) (valid (c .before .before .before .before .before .before .before .before .before .before .before .before)))) (e .1) (e .2)
+    done-with (now (a .image)) (a .c) (now (a .answer)) _ _ _ (e .0) (sym (P .number) ∙ sym (call-with (now (a .image)) (a .c) (now (a .answer)) (c .before .before .before .before .before .before .before .before .before .before .before .before .before .if1 .left) (valid (c .before .before .before .before .before .before .before .before .before .before .before .before)))) (e .1) (e .2)
 
 pub make-call-spec : {M : Type 1} → statement M
 make-call-spec =
@@ -87,19 +85,17 @@ make-call-spec =
     (tie.spec
     cast-result
     returns
-    image-ok-requires
     refuse-requires
     same-length
-    same-length-2
     returns-2
     step-of-requires
     enum-known-step
     refuse-requires-2
     enum-known-step-2
     carry-out-requires
+    same-length-2
     same-length-3
-    same-length-4
     returns-3
+    same-length-4
     same-length-5
-    same-length-6
     returns-4)

@@ -1,0 +1,90 @@
+-- Calls in turn, as the walk over a table makes them.
+-- Assumes nothing.
+use mathlib.Core.Bool.{Bool, true, false}
+use mathlib.Core.List.{List, [], _∷_, _++_, map, append-assoc}
+use mathlib.Core.Path.{_≡_, refl, sym, ap, _∙_}
+use Prim.Native.Nat.{ℕ, suc, _+_, _*_, _/_, _≤_, _<_}
+use native.Mathlib.Nat.{le-div-iff-mul-le}
+use native.Mathlib.Omega.{arith}
+use borrow.Author.Tests.{leb-true, leb-false}
+use lib.Dec.{leb}
+use lib.ListN.{length, take, drop, getD, take-append-drop, length-append}
+use lib.Seq.{drop-cons, drop-length, take-at, drop-at, length-take-le}
+use Rattle.rules.specs.declared.Call.{Call}
+use Rattle.image.specs.Image.{validImage}
+use Rattle.answers.specs.Buffers.{answerLength, noCall, callOrNone}
+use Rattle.crz.specs.CallTable.{inTurn}
+use Rattle.crz.specs.Returned.{Return, callWith, callEntry}
+use Rattle.crz.specs.Laws.Returned.{record-call}
+use Rattle.crz.specs.Laws.Valid.{same-verdict}
+
+-- ── Lengths ────────────────────────────────────────────────────────────────────────────────────
+
+-- as many whole parts as there are calls
+pub room-for : (n k a : ℕ) → 0 < k → leb n (a / k) ≡ leb (n * k) a
+room-for n k a some = go (leb n (a / k)) (leb (n * k) a) refl refl
+  where
+    go : (x y : Bool) → leb n (a / k) ≡ x → leb (n * k) a ≡ y → x ≡ y
+    go true true p q = refl
+    go true false p q = absurd (omega (arith, le-div-iff-mul-le some .0 (leb-true n (a / k) p), leb-false (n * k) a q))
+    go false true p q = absurd (omega (arith, le-div-iff-mul-le some .1 (leb-true (n * k) a q), leb-false n (a / k) p))
+    go false false p q = refl
+
+-- ── By records and by fields ───────────────────────────────────────────────────────────────────
+
+pub records-in-turn : (calls : List (List ℕ)) (image answers : List ℕ) → inTurn callWith image (map callOrNone calls) answers ≡ inTurn callEntry image calls answers
+unfolding inTurn
+records-in-turn [] image answers = refl
+records-in-turn (call ∷ calls) image answers = rw (record-call image call (take answerLength answers), records-in-turn calls)
+
+-- ── The walk ───────────────────────────────────────────────────────────────────────────────────
+
+-- what was made before, in front of what the calls make from here on
+abbrev behind : List ℕ → List ℕ × List ℕ → List ℕ × List ℕ
+behind front r = (r .0, front ++ r .1)
+
+-- The first i calls have left this image and these answers: the others made from here on give what all of them give.
+pub record MadeSoFar (calls : List Call) (image answers : List ℕ) (i : ℕ) (image′ answers′ : List ℕ) : Type 0 where
+  pub verdict : validImage image′ ≡ validImage image
+  pub rest : inTurn callWith image calls answers
+      ≡ behind (take (i * answerLength) answers′) (inTurn callWith image′ (drop i calls) (drop (i * answerLength) answers′))
+
+module _ (calls : List Call) (image answers : List ℕ) where
+  pub none-made : MadeSoFar calls image answers 0 image answers
+  none-made = record { verdict = refl; rest = refl }
+
+  -- the next call, whose own part of the answers is put back
+  pub one-made : (i : ℕ) {image′ answers′ : List ℕ} → i < length calls → i * answerLength + answerLength ≤ length answers′
+      → MadeSoFar calls image answers i image′ answers′
+      → {number : ℕ} {image″ own : List ℕ} → length own ≡ answerLength
+      → (number, image″, own) ≡ callWith image′ (getD calls i noCall) (take answerLength (drop (i * answerLength) answers′))
+      → MadeSoFar calls image answers (suc i) image″ (take (i * answerLength) answers′ ++ (own ++ drop answerLength (drop (i * answerLength) answers′)))
+  unfolding inTurn
+  one-made i {image′} {answers′} h room M {number} {image″} {own} w e =
+      let front : List ℕ = take (i * answerLength) answers′ in
+      let ahead : List ℕ = drop (i * answerLength) answers′ in
+      let others : List Call = drop (suc i) calls in
+      let after = inTurn callWith image″ others (drop answerLength ahead) in
+      let long : length (front ++ own) ≡ suc i * answerLength = length-append front own ∙ omega (arith, length-take-le (i * answerLength) answers′ (omega arith), w) in
+      let again = sym (append-assoc front own (drop answerLength ahead)) in
+      let taken : take (suc i * answerLength) (front ++ (own ++ drop answerLength ahead)) ≡ front ++ own =
+          ap (take (suc i * answerLength)) again ∙ take-at (front ++ own) (drop answerLength ahead) (suc i * answerLength) long in
+      let dropped : drop (suc i * answerLength) (front ++ (own ++ drop answerLength ahead)) ≡ drop answerLength ahead =
+          ap (drop (suc i * answerLength)) again ∙ drop-at (front ++ own) (drop answerLength ahead) (suc i * answerLength) long in
+      record {
+        verdict = ap (λ (r : Return). validImage (r .1)) e ∙ same-verdict image′ _ _ ∙ M .verdict;
+        rest =
+            M .rest
+            ∙ ap (λ (cs : List Call). behind front (inTurn callWith image′ cs ahead)) (drop-cons calls i noCall h)
+            ∙ ap (λ (r : Return). behind front (behind (r .2) (inTurn callWith (r .1) others (drop answerLength ahead)))) (sym e)
+            ∙ ap (λ (l : List ℕ). (after .0, l)) (sym (append-assoc front own (after .1)))
+            ∙ rw (taken, dropped);
+      }
+
+  -- the last call is made
+  pub all-made : {image′ answers′ : List ℕ} → MadeSoFar calls image answers (length calls) image′ answers′
+      → (image′, answers′) ≡ inTurn callWith image calls answers
+  unfolding inTurn
+  all-made {image′} {answers′} M =
+      let n : ℕ = length calls * answerLength in
+      sym (M .rest ∙ rw (drop-length calls) (ap (λ (l : List ℕ). (image′, l)) (take-append-drop n answers′)))
