@@ -79,7 +79,13 @@ fn make_calls(image: &mut [u8], valid: bool, calls: &[Call], answers: &mut [u8])
 }
 
 // The first `count` calls of an array, lent as a slice.
-fn make_first(image: &mut [u8], valid: bool, calls: [Call; MOST_CALLS], count: usize, answers: &mut [u8])
+fn make_first(
+    image: &mut [u8],
+    valid: bool,
+    calls: [Call; MOST_CALLS],
+    count: usize,
+    answers: &mut [u8],
+)
     requires { ⌜ (valid ≡ validImage (now image)) × (count ≤ mostCalls) × (count * answerLength ≤ length (now answers)) ⌝ }
     ensures { λ _. ⌜ (now (image .exit), now (answers .exit)) ≡ inTurn callWith (now (image .entry)) (take count calls) (now (answers .entry)) ⌝ }
 {

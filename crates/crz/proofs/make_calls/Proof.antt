@@ -256,7 +256,7 @@ module _ {M : Type 1} (𝓤 : URA M) (H : Heap 𝓤) (A : Atoms 𝓤) (W : Given
     -- a turn that makes one call
     more : (i : ℕ) (zs av : List ℕ) (X : SProp 𝓤) → i < n → length zs ≡ length xs → length av ≡ length as₀ → v ≡ validImage zs
         → ((r : ℕ) (ws bs : List ℕ) → (r, ws, bs) ≡ callWith zs (getD ys i noCall) (own av i) → length ws ≡ length zs → length bs ≡ length (own av i)
-            → ent 𝓤 (⋆ 𝓤 H A (At (suc i) ws (after av i bs))) X)
+        → ent 𝓤 (⋆ 𝓤 H A (At (suc i) ws (after av i bs))) X)
         → ent 𝓤 (⋆ 𝓤 H A (At i zs av)) (Wp 𝓤 H C Λ En m.turn-1 (afterTurn 𝓤 H X Left))
     unfolding afterTurn
     more i zs av X small lz la still k =

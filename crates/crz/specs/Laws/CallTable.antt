@@ -3,17 +3,18 @@
 use mathlib.Core.Bool.{Bool, true, false}
 use mathlib.Core.List.{List, [], _∷_, _++_, map, append-assoc}
 use mathlib.Core.Path.{_≡_, refl, sym, ap, _∙_}
-use Prim.Native.Nat.{ℕ, suc, _+_, _*_, _/_, _≤_, _<_}
-use native.Mathlib.Nat.{le-div-iff-mul-le}
+use Prim.Native.Nat.{ℕ, suc, _+_, _*_, _/_, _%_, _≤_, _<_}
+use native.Mathlib.Nat.{le-div-iff-mul-le, div-add-mod'}
 use native.Mathlib.Omega.{arith}
-use borrow.Author.Tests.{leb-true, leb-false}
+use borrow.Author.Tests.{eqb-true, leb-true, leb-false}
 use lib.Dec.{leb}
 use lib.ListN.{length, take, drop, getD, take-append-drop, length-append}
 use lib.Seq.{drop-cons, drop-length, take-at, drop-at, length-take-le}
+use Rattle.zone.specs.Laws.Tests.{both}
 use Rattle.rules.specs.declared.Call.{Call}
 use Rattle.image.specs.Image.{validImage}
-use Rattle.answers.specs.Buffers.{answerLength, noCall, callOrNone}
-use Rattle.crz.specs.CallTable.{inTurn}
+use Rattle.answers.specs.Buffers.{callLength, mostCalls, answerLength, noCall, callOrNone, callRecords}
+use Rattle.crz.specs.CallTable.{inTurn, tableFits, tableEntry}
 use Rattle.crz.specs.Returned.{Return, callWith, callEntry}
 use Rattle.crz.specs.Laws.Returned.{record-call}
 use Rattle.crz.specs.Laws.Valid.{same-verdict}
@@ -30,12 +31,39 @@ room-for n k a some = go (leb n (a / k)) (leb (n * k) a) refl refl
     go false true p q = absurd (omega (arith, le-div-iff-mul-le some .1 (leb-true (n * k) a q), leb-false n (a / k) p))
     go false false p q = refl
 
+-- of a table that is taken
+pub record Fitting (calls answers : ℕ) : Type 0 where
+  pub bytes : calls ≤ mostCalls * callLength
+  pub few : calls / callLength ≤ mostCalls
+  pub room : calls / callLength * answerLength ≤ answers
+
+pub fitting : (calls answers : ℕ) → tableFits calls answers ≡ true → Fitting calls answers
+unfolding tableFits
+fitting calls answers h =
+    let t = both _ _ h in
+    let s = both _ _ (t .0) in
+    let whole : calls % callLength ≡ 0 = eqb-true _ _ (s .0) in
+    let few : calls / callLength ≤ mostCalls = leb-true _ _ (s .1) in
+    record { bytes = omega (arith, div-add-mod' calls callLength, whole, few); few = few; room = leb-true _ _ (t .1) }
+
 -- ── By records and by fields ───────────────────────────────────────────────────────────────────
 
 pub records-in-turn : (calls : List (List ℕ)) (image answers : List ℕ) → inTurn callWith image (map callOrNone calls) answers ≡ inTurn callEntry image calls answers
 unfolding inTurn
 records-in-turn [] image answers = refl
 records-in-turn (call ∷ calls) image answers = rw (record-call image call (take answerLength answers), records-in-turn calls)
+
+-- ── What the entry returns ─────────────────────────────────────────────────────────────────────
+
+module _ (image calls answers : List ℕ) where
+  pub table-refused : tableFits (length calls) (length answers) ≡ false → (14, image, answers) ≡ tableEntry image calls answers
+  unfolding tableEntry
+  table-refused h = rw h
+
+  pub table-made : tableFits (length calls) (length answers) ≡ true → {image′ answers′ : List ℕ}
+      → (image′, answers′) ≡ inTurn callWith image (map callOrNone (callRecords calls)) answers → (0, image′, answers′) ≡ tableEntry image calls answers
+  unfolding tableEntry
+  table-made h {image′} {answers′} e = rw h (ap (λ (r : List ℕ × List ℕ). (0, r .0, r .1)) (e ∙ records-in-turn (callRecords calls) image answers))
 
 -- ── The walk ───────────────────────────────────────────────────────────────────────────────────
 
@@ -68,9 +96,9 @@ module _ (calls : List Call) (image answers : List ℕ) where
       let long : length (front ++ own) ≡ suc i * answerLength = length-append front own ∙ omega (arith, length-take-le (i * answerLength) answers′ (omega arith), w) in
       let again = sym (append-assoc front own (drop answerLength ahead)) in
       let taken : take (suc i * answerLength) (front ++ (own ++ drop answerLength ahead)) ≡ front ++ own =
-          ap (take (suc i * answerLength)) again ∙ take-at (front ++ own) (drop answerLength ahead) (suc i * answerLength) long in
+      ap (take (suc i * answerLength)) again ∙ take-at (front ++ own) (drop answerLength ahead) (suc i * answerLength) long in
       let dropped : drop (suc i * answerLength) (front ++ (own ++ drop answerLength ahead)) ≡ drop answerLength ahead =
-          ap (drop (suc i * answerLength)) again ∙ drop-at (front ++ own) (drop answerLength ahead) (suc i * answerLength) long in
+      ap (drop (suc i * answerLength)) again ∙ drop-at (front ++ own) (drop answerLength ahead) (suc i * answerLength) long in
       record {
         verdict = ap (λ (r : Return). validImage (r .1)) e ∙ same-verdict image′ _ _ ∙ M .verdict;
         rest =
