@@ -1,11 +1,12 @@
--- However the invoices of a trade are cut (02 3/12), on bytes: over any calls from an image on, a trade in state 6 that has come to some confirmed
--- sum has been paid what the formula says of that sum. The proofs are in Laws/.
+-- However the invoices of a trade are cut (02 3/12), on bytes: over any calls and tables of calls from an image on, a trade in state 6 that
+-- has come to some confirmed sum has been paid what the formula says of that sum. The proofs are in Laws/.
 -- Assumes nothing.
 use mathlib.Core.Bool.{Bool, true, false, not, cond, _&&_}
 use mathlib.Core.List.{List, [], _∷_}
 use mathlib.Core.Path.{_≡_}
-use Prim.Native.Nat.{ℕ, _+_}
+use Prim.Native.Nat.{ℕ, zero, suc, _+_}
 use lib.Dec.{eqb}
+use lib.ListN.{take, drop}
 use Rattle.units.specs.Payments.{fen, paidSoFar}
 use Rattle.zone.specs.declared.Record.{Record}
 use Rattle.zone.specs.Held.{full}
@@ -14,9 +15,9 @@ use Rattle.rules.specs.declared.Call.{Call}
 use Rattle.rules.specs.declared.Entry.{Entry}
 use Rattle.rules.specs.View.{recordOfReceipt}
 use Rattle.image.specs.Image.{validImage, decode}
-use Rattle.answers.specs.Buffers.{callIn}
-use Rattle.crz.specs.Returned.{Returned}
-use Rattle.claims.specs.Demand.{Exchange, MadeFrom, noCalls, next, replyOf}
+use Rattle.answers.specs.Buffers.{callIn, callRecords, answerLength}
+use Rattle.crz.specs.Returned.{callEntry, Returned}
+use Rattle.claims.specs.Demand.{Handed, MadeFrom, noCalls, next, nextTable, replyOf}
 use Rattle.claims.specs.History.{Reply, refusedWith, acceptedWith}
 
 -- ── What calls pay of a rest ───────────────────────────────────────────────────────────────────
@@ -51,23 +52,36 @@ pub record Followed : Type 0 where
 abbrev pub afterCall : ℕ → List ℕ → Reply → Followed → Followed
 afterCall k image reply t = cond (t .over) t (record { over = not (eqb (lotIn image k .state) 6); parts = t .parts + partsOf k reply })
 
--- the trade of lot k over a list of calls, the oldest first
-unfoldable pub follow : (k : ℕ) {start : List ℕ} {list : List Exchange} {image : List ℕ} → MadeFrom start list image → Followed
+-- over the calls of a table on an image, the oldest first: each is made on the image that the one before it left
+unfoldable pub afterCalls : ℕ → List ℕ → List (List ℕ) → List ℕ → Followed → Followed
+afterCalls k image [] answers t = t
+afterCalls k image (call ∷ calls) answers t =
+    let r = callEntry image call (take answerLength answers) in
+    afterCalls k (r .1) calls (drop answerLength answers) (afterCall k (r .1) (replyOf (r .0) (r .2)) t)
+
+-- a table that was refused made no call
+abbrev pub afterTable : ℕ → ℕ → List ℕ → List ℕ → List ℕ → Followed → Followed
+afterTable k zero image calls answers t = afterCalls k image (callRecords calls) answers t
+afterTable k (suc n) image calls answers t = t
+
+-- the trade of lot k over a list of calls and tables, the oldest first
+unfoldable pub follow : (k : ℕ) {start : List ℕ} {list : List Handed} {image : List ℕ} → MadeFrom start list image → Followed
 follow k noCalls = record { over = false; parts = 0 }
 follow k (next m call answer number image′ answer′ R) = afterCall k image′ (replyOf number answer′) (follow k m)
+follow k (nextTable {image = image} m calls answers number image′ answers′ R) = afterTable k number image calls answers (follow k m)
 
 -- Its confirmed sum: while it goes on the image's, and full payment once it is over, because nothing but the confirmation that brings it
 -- to full ends it (`OverAtFull`).
-abbrev pub confirmedSum : (k : ℕ) {start : List ℕ} {list : List Exchange} {image : List ℕ} → MadeFrom start list image → ℕ
+abbrev pub confirmedSum : (k : ℕ) {start : List ℕ} {list : List Handed} {image : List ℕ} → MadeFrom start list image → ℕ
 confirmedSum k {start} {list} {image} m = cond (follow k m .over) (full (lotIn start k) .0) (lotIn image k .confirmed .0)
 
 -- ── The claims ─────────────────────────────────────────────────────────────────────────────────
 
--- Of every list of calls from a valid image on: what the trade had been paid and what its outcomes 11 have paid since is the formula at its
+-- Of every list of calls and tables from a valid image on: what the trade had been paid and what its outcomes 11 have paid since is the formula at its
 -- confirmed sum.
 abbrev pub PartsBySum : Type 0
 PartsBySum =
-    (start : List ℕ) (list : List Exchange) (image : List ℕ) (made : MadeFrom start list image) → validImage start ≡ true
+    (start : List ℕ) (list : List Handed) (image : List ℕ) (made : MadeFrom start list image) → validImage start ≡ true
     → (k : ℕ) → lotIn start k .state ≡ 6
     → lotIn start k .paid .0 + follow k made .parts ≡ paidSoFar (full (lotIn start k)) (fen (confirmedSum k made)) .0
 
@@ -75,8 +89,8 @@ PartsBySum =
 abbrev pub CutAlike : Type 0
 CutAlike =
     (start : List ℕ) → validImage start ≡ true → (k : ℕ) → lotIn start k .state ≡ 6
-    → (list₁ : List Exchange) (image₁ : List ℕ) (made₁ : MadeFrom start list₁ image₁)
-    → (list₂ : List Exchange) (image₂ : List ℕ) (made₂ : MadeFrom start list₂ image₂)
+    → (list₁ : List Handed) (image₁ : List ℕ) (made₁ : MadeFrom start list₁ image₁)
+    → (list₂ : List Handed) (image₂ : List ℕ) (made₂ : MadeFrom start list₂ image₂)
     → confirmedSum k made₁ ≡ confirmedSum k made₂
     → follow k made₁ .parts ≡ follow k made₂ .parts
 

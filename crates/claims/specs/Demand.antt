@@ -1,23 +1,25 @@
--- Demand 3, the third of what the library owes its desk (README): after every list of calls on a fresh image, refused ones among them, with
--- buffers of any length and content, four sentences hold by the accepted calls and their answers alone. 01 History 8 to 11 says what their
--- words mean. The history is fed from the call records and the answers as they were on return; nothing comes from the image. Free, frozen
--- and owner are those of the image after the list. The proof is in Laws/; nothing of it is needed to read this page.
+-- Demand 3, the third of what the library owes its desk (README): after every list of calls on a fresh image, refused ones and tables of calls
+-- among them, with buffers of any length and content, four sentences hold by the accepted calls and their answers alone. 01 History 8 to 11
+-- says what their words mean. The history is fed from the call records and the answers as they were on return; nothing comes from the
+-- image. Free, frozen and owner are those of the image after the list. The proof is in Laws/; nothing of it is needed to read this page.
 -- Assumes nothing.
 use mathlib.Core.Bool.{true}
 use mathlib.Core.List.{List, [], _∷_, map}
 use mathlib.Core.Path.{_≡_}
 use Prim.Native.Nat.{ℕ, zero, suc, _+_, _≤_}
+use lib.ListN.{getD, take, drop}
 use Rattle.units.specs.Ranges.{accountCount, receiptCount}
 use Rattle.zone.specs.declared.Zone.{Zone}
 use Rattle.zone.specs.Valid.{freshZone}
 use Rattle.rules.specs.declared.Call.{Call}
 use Rattle.rules.specs.View.{freeOf, frozenOf, receiptOfNumber}
 use Rattle.image.specs.Image.{validImage, decode, encode}
-use Rattle.answers.specs.Buffers.{callIn, entriesIn}
+use Rattle.answers.specs.Buffers.{callIn, callRecords, answerLength, answerNumberPlace, entriesIn}
+use Rattle.crz.specs.CallTable.{TableReturned}
 use Rattle.crz.specs.Returned.{Returned}
 use Rattle.claims.specs.History.{Reply, refusedWith, acceptedWith, history, heldOver, Exact, belongs, EachStrikeOwnAct}
 
--- ── A list of calls, the newest first, and the image after it ──────────────────────────────────
+-- ── What a host hands over, the newest first, and the image after it ──────────────────────────
 
 -- one call of the host's: the record handed over, the number returned, the answer buffer on return
 pub record Exchange : Type 0 where
@@ -25,13 +27,41 @@ pub record Exchange : Type 0 where
   pub number : ℕ
   pub answer : List ℕ
 
--- Calls from an image on, each made on the image that the one before it left. `Returned` is what the contract of `crz_call` promises, of
--- every buffer.
-pub data MadeFrom (start : List ℕ) : List Exchange → List ℕ → Type 0 where
+-- A call by itself, or a table of calls (02 5/12): its records, the number that the table returned, and all its answers on return. An entry
+-- that is added later has a case of its own here.
+pub data Handed : Type 0 where
+  oneCall : Exchange → Handed
+  callTable : (calls : List ℕ) (number : ℕ) (answers : List ℕ) → Handed
+
+-- What is handed over from an image on, each on the image that the one before it left. `Returned` and `TableReturned` are what the contracts
+-- of `crz_call` and `crz_table` promise, of every buffer.
+pub data MadeFrom (start : List ℕ) : List Handed → List ℕ → Type 0 where
   noCalls : MadeFrom start [] start
-  next : {list : List Exchange} {image : List ℕ} → MadeFrom start list image → (call answer : List ℕ) (number : ℕ) (image′ answer′ : List ℕ)
+  next : {list : List Handed} {image : List ℕ} → MadeFrom start list image → (call answer : List ℕ) (number : ℕ) (image′ answer′ : List ℕ)
       → Returned image call answer number image′ answer′
-      → MadeFrom start (record { call = call; number = number; answer = answer′ } ∷ list) image′
+      → MadeFrom start (oneCall (record { call = call; number = number; answer = answer′ }) ∷ list) image′
+  nextTable : {list : List Handed} {image : List ℕ} → MadeFrom start list image → (calls answers : List ℕ) (number : ℕ) (image′ answers′ : List ℕ)
+      → TableReturned image calls answers number image′ answers′ → MadeFrom start (callTable calls number answers′ ∷ list) image′
+
+-- ── The calls of a list, one by one ────────────────────────────────────────────────────────────
+
+-- The calls of a table, put in front of those before it. Each has its own part of the answers, and the first byte of that is its number.
+unfoldable pub callsOfTable : List (List ℕ) → List ℕ → List Exchange → List Exchange
+callsOfTable [] answers before = before
+callsOfTable (call ∷ calls) answers before =
+    let own : List ℕ = take answerLength answers in
+    callsOfTable calls (drop answerLength answers) (record { call = call; number = getD own answerNumberPlace 0; answer = own } ∷ before)
+
+-- one that is handed over more; a table that was refused has no calls, whatever its answers held before
+abbrev pub withCalls : Handed → List Exchange → List Exchange
+withCalls (oneCall x) before = x ∷ before
+withCalls (callTable calls zero answers) before = callsOfTable (callRecords calls) answers before
+withCalls (callTable calls (suc n) answers) before = before
+
+-- all of them
+unfoldable pub callsOf : List Handed → List Exchange
+callsOf [] = []
+callsOf (h ∷ list) = withCalls h (callsOf list)
 
 -- ── What the history table is fed ──────────────────────────────────────────────────────────────
 
@@ -74,14 +104,14 @@ ImageKept =
     (image call answer : List ℕ) (number : ℕ) (image′ answer′ : List ℕ) → Returned image call answer number image′ answer′
     → KeepsImage image number image′
 
--- a valid image stays one over every list of calls
+-- a valid image stays one over every list
 abbrev pub StaysValid : Type 0
-StaysValid = (start : List ℕ) (list : List Exchange) (image : List ℕ) → validImage start ≡ true → MadeFrom start list image → validImage image ≡ true
+StaysValid = (start : List ℕ) (list : List Handed) (image : List ℕ) → validImage start ≡ true → MadeFrom start list image → validImage image ≡ true
 
 -- the image that demand 3's lists start from is valid, and with `StaysValid` every image after them
 abbrev pub FreshIsValid : Type 0
 FreshIsValid = validImage (encode freshZone) ≡ true
 
--- demand 3: the four sentences, for every list of calls from a fresh image on
+-- demand 3: the four sentences, for every list from a fresh image on
 abbrev pub Demand3 : Type 0
-Demand3 = (list : List Exchange) (image : List ℕ) → MadeFrom (encode freshZone) list image → Holds (map fed list) (decode image)
+Demand3 = (list : List Handed) (image : List ℕ) → MadeFrom (encode freshZone) list image → Holds (map fed (callsOf list)) (decode image)

@@ -4,6 +4,8 @@ pub mod InStep
 pub mod Order
 pub mod Kept
 pub mod Values
+pub mod Calls
+pub mod Tables
 pub mod Demand
 pub mod Quotes
 pub mod Premiums

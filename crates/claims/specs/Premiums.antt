@@ -15,7 +15,7 @@ use Rattle.rules.specs.View.{receiptOfNumber}
 use Rattle.image.specs.Image.{decode, encode}
 use Rattle.answers.specs.Buffers.{callIn}
 use Rattle.crz.specs.Returned.{Returned}
-use Rattle.claims.specs.Demand.{Exchange, MadeFrom, fed}
+use Rattle.claims.specs.Demand.{Handed, MadeFrom, callsOf, fed}
 use Rattle.claims.specs.History.{Reply, refusedWith, acceptedWith}
 
 -- receipt k of an image; a number that is none has the receipt that nobody owns
@@ -33,10 +33,10 @@ PremiumGiven =
     (image call answer image′ answer′ : List ℕ) → Returned image call answer 0 image′ answer′ → callIn call .kind ≡ 3
     → Graded image′ (callIn call .receipt) (callIn call .basis)
 
--- of every list of calls from an image on, refused ones among them: a registered receipt keeps its premium
+-- of every list of calls and tables from an image on, refused ones among them: a registered receipt keeps its premium
 abbrev pub PremiumStays : Type 0
 PremiumStays =
-    (start : List ℕ) (list : List Exchange) (image : List ℕ) → MadeFrom start list image → (k : ℕ) (p : ℤ) → Graded start k p → Graded image k p
+    (start : List ℕ) (list : List Handed) (image : List ℕ) → MadeFrom start list image → (k : ℕ) (p : ℤ) → Graded start k p → Graded image k p
 
 -- ── By the accepted calls alone ────────────────────────────────────────────────────────────────
 
@@ -50,8 +50,8 @@ unfoldable pub premiumAfter : ℕ → List (Call × Reply) → ℤ
 premiumAfter k [] = pos 0
 premiumAfter k (a ∷ list) = premiumBy k (a .0) (a .1) (premiumAfter k list)
 
--- of every list of calls from a fresh image on, refused ones among them: every receipt has the premium that the accepted calls say
+-- of every list of calls and tables from a fresh image on, refused ones among them: every receipt has the premium that the accepted calls say
 abbrev pub PremiumsKnown : Type 0
 PremiumsKnown =
-    (list : List Exchange) (image : List ℕ) → MadeFrom (encode freshZone) list image → (k : ℕ)
-    → receiptIn image k .premium .0 ≡ premiumAfter k (map fed list)
+    (list : List Handed) (image : List ℕ) → MadeFrom (encode freshZone) list image → (k : ℕ)
+    → receiptIn image k .premium .0 ≡ premiumAfter k (map fed (callsOf list))

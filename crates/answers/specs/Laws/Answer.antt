@@ -6,7 +6,7 @@ use mathlib.Core.Path.{_≡_, refl, sym, ap, _∙_}
 use Prim.Native.Nat.{ℕ, zero, suc, _-_, _≤_}
 use native.Mathlib.Nat.{sub-zero, le-of-suc-le-suc, not-suc-le-zero}
 use native.Mathlib.Omega.{arith}
-use lib.ListN.{length, drop, replicate, length-replicate, length-append}
+use lib.ListN.{length, drop, replicate, length-replicate, length-append, length-drop}
 use lib.Seq.{sets, drop-append-le}
 use Rattle.wire.specs.LittleEndian.{leBytes}
 use Rattle.wire.specs.Laws.Bytes.{sets-append}
@@ -62,3 +62,16 @@ answer-padded old z es h k =
   where
     go : (s head : List ℕ) → length head ≡ answerHeader → sets (sets s 0 head) answerHeader (tableBytes entryBytes es) ≡ sets s 0 (head ++ tableBytes entryBytes es)
     go s head wide = sym (rw (sets-append, wide))
+
+-- a padded answer is as long as the buffer was
+pub padded-long : (bytes old : List ℕ) → length bytes ≤ answerLength → answerLength ≤ length old → length (padded bytes old) ≡ length old
+unfolding padded
+padded-long bytes old k h =
+    let zeros : List ℕ = replicate (answerLength - length bytes) 0 in
+    length-append (bytes ++ zeros) (drop answerLength old) ∙ omega (arith, length-append bytes zeros, length-replicate {A = ℕ} (answerLength - length bytes) 0, length-drop answerLength old)
+
+pub accepted-long : (z : Zone) (es : List Entry) (old : List ℕ) → length es ≤ receiptCount → answerLength ≤ length old → length (acceptedAnswer z es old) ≡ length old
+unfolding acceptedBytes
+accepted-long z es old k h =
+    padded-long (headerOf (z .afternoon) (length es) (z .total .0) ++ tableBytes entryBytes es) old
+    (rw (length-append, header-wide (z .afternoon) (length es) (z .total .0), length-tableBytes entryBytes entryLength entry-wide es) (omega arith)) h

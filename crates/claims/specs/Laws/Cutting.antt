@@ -4,11 +4,12 @@ use mathlib.Core.Bool.{Bool, true, false, cond, true≢false}
 use mathlib.Core.List.{List, [], _∷_}
 use mathlib.Core.Logic.{_≢_}
 use mathlib.Core.Path.{_≡_, refl, sym, ap, _∙_, subst}
-use Prim.Native.Nat.{ℕ, suc, _+_, _<_}
+use Prim.Native.Nat.{ℕ, zero, suc, _+_, _<_}
 use native.Mathlib.Decide.{ℕ-discrete}
 use native.Mathlib.Omega.{arith}
 use borrow.Author.Tests.{eqb-true, eq-eqb, ne-eqb}
 use lib.Dec.{eqb, leb}
+use lib.ListN.{take, drop}
 use Rattle.units.specs.declared.Fen.{Fen}
 use Rattle.units.specs.Laws.Bounds.{so-far-full}
 use Rattle.units.specs.Payments.{fen, restPayment, paidSoFar}
@@ -36,13 +37,17 @@ use Rattle.rules.specs.Steps.{numberOn}
 use Rattle.rules.specs.Tables.{among}
 use Rattle.rules.specs.View.{viewOf, receiptOfNumber, recordOfReceipt}
 use Rattle.image.specs.Image.{validImage, decode, encode}
-use Rattle.answers.specs.Buffers.{callIn}
+use Rattle.answers.specs.Buffers.{callIn, callRecords, answerLength}
+use Rattle.crz.specs.CallTable.{inTurn}
+use Rattle.crz.specs.Laws.CallTable.{table-taken, table-left}
 use Rattle.crz.specs.Laws.Returned.{Left, refused, accepted, returned-case}
-use Rattle.crz.specs.Returned.{recordNumber}
-use Rattle.claims.specs.Cutting.{lotIn, partIn, partsIn, Followed, afterCall, follow, PartsBySum, CutAlike, Proceeds, goesOn, isOver, OverAtFull}
-use Rattle.claims.specs.Demand.{Exchange, MadeFrom, noCalls, next, replyOf}
+use Rattle.crz.specs.Laws.Valid.{good-image, Zero}
+use Rattle.crz.specs.Returned.{recordNumber, Return, callEntry, Returned}
+use Rattle.claims.specs.Cutting.{lotIn, partIn, partsIn, Followed, afterCall, afterCalls, follow, PartsBySum, CutAlike, Proceeds, goesOn, isOver, OverAtFull}
+use Rattle.claims.specs.Demand.{Handed, MadeFrom, noCalls, next, nextTable, replyOf}
 use Rattle.claims.specs.History.{acceptedWith}
-use Rattle.claims.specs.Laws.Demand.{good-image, Zero, zero-for, new-zone, read-back, stays-valid}
+use Rattle.claims.specs.Laws.Calls.{zero-for, new-zone, read-back}
+use Rattle.claims.specs.Laws.Demand.{stays-valid}
 use Rattle.claims.specs.Laws.Order.{answer-permuted}
 use Rattle.claims.specs.PriceOrder.{Permuted, none as no-more, keep, swap, via}
 
@@ -254,13 +259,32 @@ next-reached k {start} {image} {c} call answer accepted e (unfinished o six same
     subst (λ (es : List Entry). Reached k start (encode (d .zone)) (afterCall k (encode (d .zone)) (acceptedWith es) c)) (sym (read-back image (callIn call) Z answer))
     (accepted-reached k start image c (d .entries) (encode (d .zone)) o same paid (becomes-on image (callIn call) Z k six))
 
-reached : (k : ℕ) {start : List ℕ} {list : List Exchange} {image : List ℕ} (made : MadeFrom start list image) → lotIn start k .state ≡ 6
+one-reached : (k : ℕ) {start image : List ℕ} {c : Followed} (call answer : List ℕ) (number : ℕ) (image′ answer′ : List ℕ)
+    → Returned image call answer number image′ answer′ → Reached k start image c → Reached k start image′ (afterCall k image′ (replyOf number answer′) c)
+one-reached k {start} {image} call answer number image′ answer′ R =
+    let C = returned-case image call answer number image′ answer′ R in
+    next-reached k call answer (C .left) (C .is)
+
+-- over the calls of a table
+calls-reached : (k : ℕ) {start : List ℕ} (calls : List (List ℕ)) (image answers : List ℕ) (c : Followed) → Reached k start image c
+    → Reached k start (inTurn callEntry image calls answers .0) (afterCalls k image calls answers c)
+unfolding inTurn afterCalls
+calls-reached k [] image answers c S = S
+calls-reached k (call ∷ calls) image answers c S =
+    let r : Return = callEntry image call (take answerLength answers) in
+    calls-reached k calls (r .1) (drop answerLength answers) _ (one-reached k call (take answerLength answers) (r .0) (r .1) (r .2) refl S)
+
+reached : (k : ℕ) {start : List ℕ} {list : List Handed} {image : List ℕ} (made : MadeFrom start list image) → lotIn start k .state ≡ 6
     → Reached k start image (follow k made)
 unfolding follow
 reached k noCalls s = unfinished refl s refl (omega arith)
-reached k (next {list} {image} m call answer number image′ answer′ R) s =
-    let C = returned-case image call answer number image′ answer′ R in
-    next-reached k call answer (C .left) (C .is) (reached k m s)
+reached k (next m call answer number image′ answer′ R) s = one-reached k call answer number image′ answer′ R (reached k m s)
+reached k {start} (nextTable {image = image} m calls answers zero image′ answers′ R) s =
+    let c : Followed = afterCalls k image (callRecords calls) answers (follow k m) in
+    subst (λ (i : List ℕ). Reached k start i c) (sym (table-taken image calls answers image′ answers′ R .image-is))
+    (calls-reached k (callRecords calls) image answers (follow k m) (reached k m s))
+reached k {start} (nextTable {image = image} m calls answers (suc n) image′ answers′ R) s =
+    subst (λ (i : List ℕ). Reached k start i (follow k m)) (sym (table-left image calls answers n image′ answers′ R .1)) (reached k m s)
 
 -- lot k of a valid image in state 6
 part-paid-in : (image : List ℕ) (k : ℕ) → validImage image ≡ true → lotIn image k .state ≡ 6 → PartPaid (lotIn image k)

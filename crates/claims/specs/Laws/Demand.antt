@@ -1,115 +1,26 @@
--- Demand 3, from what holds on values: the image stays valid, and the answer gives back the entries.
+-- Demand 3, from what holds on values.
 -- Assumes nothing.
-use mathlib.Core.Bool.{Bool, true, false, not, cond}
+use mathlib.Core.Bool.{true}
 use mathlib.Core.List.{List, [], _∷_, map}
 use mathlib.Core.Path.{_≡_, refl, sym, subst}
-use Prim.Native.Nat.{ℕ, zero, suc, _^_, _<_}
-use native.Mathlib.Nat.{le-of-suc-le-suc, not-suc-le-zero}
-use native.Mathlib.Omega.{arith}
-use lib.Dec.{eqb, ltb}
-use lib.ListN.{length}
+use Prim.Native.Nat.{ℕ, zero, suc}
 use Rattle.zone.specs.declared.Zone.{Zone}
 use Rattle.zone.specs.Valid.{freshZone}
 use Rattle.rules.specs.declared.Call.{Call}
 use Rattle.rules.specs.declared.Entry.{Entry}
 use Rattle.rules.specs.Effects.{effect}
 use Rattle.rules.specs.Events.{Done}
-use Rattle.rules.specs.Laws.Good.{Good}
-use Rattle.rules.specs.Steps.{numberOn}
 use Rattle.image.specs.Image.{validImage, decode, encode}
-use Rattle.image.specs.Laws.RoundTrip.{decode-encode, valid-encode, valid-decode, fresh-valid, fresh-sized, decode-sized}
-use Rattle.answers.specs.Buffers.{callLength, answerLength, callIn, entriesIn, acceptedAnswer}
-use Rattle.answers.specs.Laws.ReadBack.{Numbered, entries-back}
-use Rattle.lots.specs.Laws.Visits.{good-decode}
+use Rattle.image.specs.Laws.RoundTrip.{decode-encode, fresh-valid, fresh-sized}
+use Rattle.answers.specs.Buffers.{callIn, entriesIn, acceptedAnswer}
 use Rattle.crz.specs.Laws.Returned.{Left, refused, accepted, returned-case}
-use Rattle.crz.specs.Returned.{afterBufferNumbers, callNumber, recordNumber, Returned}
-use Rattle.claims.specs.Demand.{Exchange, MadeFrom, noCalls, next, fed, KeepsImage, ImageKept, StaysValid, FreshIsValid, Demand3}
+use Rattle.crz.specs.Laws.Valid.{Zero, new-valid}
+use Rattle.crz.specs.Returned.{recordNumber}
+use Rattle.claims.specs.Demand.{Exchange, Handed, MadeFrom, callsOf, fed, KeepsImage, StaysValid, FreshIsValid, Demand3}
 use Rattle.claims.specs.History.{acceptedWith}
-use Rattle.claims.specs.Kept.{EntryFits, NumbersFit, Kept}
-use Rattle.claims.specs.PriceOrder.{EachEntry}
+use Rattle.claims.specs.Laws.Calls.{zero-for, new-zone, read-back, image-kept}
+use Rattle.claims.specs.Laws.Tables.{OneByOne, none-made, then, one-by-one}
 use Rattle.claims.specs.Laws.Values.{After, after-refused, after-accepted, after-fresh, holds}
-use Rattle.claims.specs.Laws.Kept.{keeps-valid}
-use Rattle.claims.specs.Laws.Order.{each-map}
-
--- ── The entries of an answer ───────────────────────────────────────────────────────────────────
-
-numbers-fit : (es : List Entry) → EachEntry EntryFits es → NumbersFit es
-numbers-fit = each-map EntryFits (λ e. e .number < 2 ^ 32) (λ e f. f .number)
-
-pub numbered : (es : List Entry) → NumbersFit es → Numbered es
-numbered [] s k h = absurd (not-suc-le-zero h)
-numbered (e ∷ es) s zero h = s .0
-numbered (e ∷ es) s (suc k) h = numbered es (s .1) k (le-of-suc-le-suc h)
-
--- ── Number 0 ───────────────────────────────────────────────────────────────────────────────────
-
-pub record Zero (image : List ℕ) (c : Call) : Type 0 where
-  pub valid : validImage image ≡ true
-  pub number : numberOn (decode image) c ≡ 0
-
-behind-0 : (image answer : List ℕ) (n : ℕ) → 0 ≡ afterBufferNumbers image answer n → (validImage image ≡ true) × (n ≡ 0)
-unfolding afterBufferNumbers
-behind-0 image answer n h = go (ltb (length answer) answerLength) (validImage image) h
-  where
-    go : (a b : Bool) → 0 ≡ cond a 1 (cond (not b) 2 n) → (b ≡ true) × (n ≡ 0)
-    go true b h = absurd (omega arith)
-    go false true h = (refl, sym h)
-    go false false h = absurd (omega arith)
-
-pub zero-for : (image call answer : List ℕ) → 0 ≡ recordNumber image call answer → Zero image (callIn call)
-unfolding recordNumber callNumber
-zero-for image call answer h = go (eqb (length call) callLength) h
-  where
-    go : (b : Bool) → 0 ≡ cond b (afterBufferNumbers image answer (numberOn (decode image) (callIn call))) (afterBufferNumbers image answer 3) → Zero image (callIn call)
-    go true h = let t = behind-0 image answer _ h in record { valid = t .0; number = t .1 }
-    go false h = absurd (let t = behind-0 image answer 3 h .1 in omega arith)
-
--- ── One call ───────────────────────────────────────────────────────────────────────────────────
-
-pub good-image : (image : List ℕ) → validImage image ≡ true → Good (decode image)
-good-image image ok = good-decode image (valid-decode image ok)
-
-module _ (image : List ℕ) (c : Call) (ok : Zero image c) where
-  abbrev done : Done
-  done = effect (decode image) c
-
-  kept : Kept (c .kind) done
-  kept = keeps-valid (decode image) c (decode-sized image) (valid-decode image (ok .valid)) (ok .number)
-
-  new-valid : validImage (encode (done .zone)) ≡ true
-  new-valid = valid-encode (done .zone) (kept .sized) (kept .valid)
-
-  pub new-zone : decode (encode (done .zone)) ≡ done .zone
-  new-zone = decode-encode (done .zone) (kept .sized) (kept .valid)
-
-  pub read-back : (answer : List ℕ) → entriesIn (acceptedAnswer (done .zone) (done .entries) answer) ≡ done .entries
-  read-back answer = entries-back (done .zone) (done .entries) answer (omega (arith, kept .count)) (numbered (done .entries) (numbers-fit (done .entries) (kept .fit)))
-
--- number 0, and what the call has left
-pub record AcceptedCall (image call answer image′ answer′ : List ℕ) : Type 0 where
-  pub zero : Zero image (callIn call)
-  pub image-is : image′ ≡ encode (effect (decode image) (callIn call) .zone)
-  pub answer-is : answer′ ≡ acceptedAnswer (effect (decode image) (callIn call) .zone) (effect (decode image) (callIn call) .entries) answer
-
-pub accepted-call : (image call answer image′ answer′ : List ℕ) → Returned image call answer 0 image′ answer′ → AcceptedCall image call answer image′ answer′
-accepted-call image call answer image′ answer′ R =
-    let C = returned-case image call answer 0 image′ answer′ R in
-    go (C .left) (C .is) refl
-  where
-    go : {n : ℕ} {i a : List ℕ} → Left image (callIn call) answer n i a → 0 ≡ recordNumber image call answer → n ≡ 0 → AcceptedCall image call answer i a
-    go (refused n) e h = absurd (omega arith)
-    go accepted e h = record { zero = zero-for image call answer e; image-is = refl; answer-is = refl }
-
--- ── The claims ─────────────────────────────────────────────────────────────────────────────────
-
-pub image-kept : ImageKept
-image-kept image call answer number image′ answer′ R =
-    let C = returned-case image call answer number image′ answer′ R in
-    go (C .left) (C .is)
-  where
-    go : {n : ℕ} {i a : List ℕ} → Left image (callIn call) answer n i a → n ≡ recordNumber image call answer → KeepsImage image n i
-    go (refused n) e = record { accepted = λ h. absurd (omega arith); refused = λ n h. refl }
-    go accepted e = record { accepted = λ h. new-valid image (callIn call) (zero-for image call answer e); refused = λ n h. absurd (omega arith) }
 
 record AfterOn (list : List Exchange) (image : List ℕ) : Type 0 where
   valid : validImage image ≡ true
@@ -134,14 +45,14 @@ after-fresh-image : AfterOn [] (encode freshZone)
 after-fresh-image =
     record { valid = fresh-valid; after = subst (After []) (sym (decode-encode freshZone fresh-sized (after-fresh .valid))) after-fresh }
 
-after-made : {list : List Exchange} {image : List ℕ} → MadeFrom (encode freshZone) list image → AfterOn list image
-after-made noCalls = after-fresh-image
-after-made (next {list} {image} m call answer number image′ answer′ R) =
+after-made : {list : List Exchange} {image : List ℕ} → OneByOne (encode freshZone) list image → AfterOn list image
+after-made none-made = after-fresh-image
+after-made (then {list} {image} m call answer number image′ answer′ R) =
     let C = returned-case image call answer number image′ answer′ R in
     after-next call answer (after-made m) (C .left) (C .is)
 
 pub demand3 : Demand3
-demand3 list image m = holds (map fed list) (decode image) (after-made m .after)
+demand3 list image m = holds (map fed (callsOf list)) (decode image) (after-made (one-by-one m) .after)
 
 -- ── Any start ──────────────────────────────────────────────────────────────────────────────────
 
@@ -153,7 +64,10 @@ valid-after (suc n) image′ K v = subst (λ (s : List ℕ). validImage s ≡ tr
 pub fresh-is-valid : FreshIsValid
 fresh-is-valid = fresh-valid
 
+valid-made : {start : List ℕ} {list : List Exchange} {image : List ℕ} → validImage start ≡ true → OneByOne start list image → validImage image ≡ true
+valid-made v none-made = v
+valid-made v (then {list} {image} m call answer number image′ answer′ R) =
+    valid-after number image′ (image-kept image call answer number image′ answer′ R) (valid-made v m)
+
 pub stays-valid : StaysValid
-stays-valid start list image v noCalls = v
-stays-valid start _ _ v (next {list} {image} m call answer number image′ answer′ R) =
-    valid-after number image′ (image-kept image call answer number image′ answer′ R) (stays-valid start list image v m)
+stays-valid start list image v m = valid-made v (one-by-one m)

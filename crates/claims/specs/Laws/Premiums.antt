@@ -42,9 +42,11 @@ use Rattle.image.specs.Image.{decode, encode}
 use Rattle.image.specs.Laws.RoundTrip.{decode-encode, fresh-sized}
 use Rattle.answers.specs.Buffers.{callIn}
 use Rattle.crz.specs.Laws.Returned.{Left, refused, accepted, returned-case}
+use Rattle.crz.specs.Laws.Valid.{good-image, Zero}
 use Rattle.crz.specs.Returned.{recordNumber}
-use Rattle.claims.specs.Demand.{Exchange, noCalls, next, fed}
-use Rattle.claims.specs.Laws.Demand.{good-image, Zero, zero-for, new-zone, accepted-call}
+use Rattle.claims.specs.Demand.{Exchange, fed}
+use Rattle.claims.specs.Laws.Calls.{zero-for, new-zone, accepted-call}
+use Rattle.claims.specs.Laws.Tables.{OneByOne, none-made, then, one-by-one}
 use Rattle.claims.specs.Laws.InStep.{nth-replicate}
 use Rattle.claims.specs.History.{acceptedWith}
 use Rattle.claims.specs.Premiums.{receiptIn, Graded, PremiumGiven, PremiumStays, premiumBy, premiumAfter, PremiumsKnown}
@@ -254,11 +256,14 @@ next-graded : {image : List ℕ} (call answer : List ℕ) {number : ℕ} {image�
 next-graded call answer (refused n) e k p S = S
 next-graded {image} call answer accepted e k p S = stays image (callIn call) (zero-for image call answer e) k p S
 
-pub premium-stays : PremiumStays
-premium-stays start list image noCalls k p S = S
-premium-stays start _ _ (next {list} {image} m call answer number image′ answer′ R) k p S =
+graded-after : {start : List ℕ} {list : List Exchange} {image : List ℕ} → OneByOne start list image → (k : ℕ) (p : ℤ) → Graded start k p → Graded image k p
+graded-after none-made k p S = S
+graded-after (then {list} {image} m call answer number image′ answer′ R) k p S =
     let C = returned-case image call answer number image′ answer′ R in
-    next-graded call answer (C .left) (C .is) k p (premium-stays start list image m k p S)
+    next-graded call answer (C .left) (C .is) k p (graded-after m k p S)
+
+pub premium-stays : PremiumStays
+premium-stays start list image m = graded-after (one-by-one m)
 
 -- ── From a fresh image ─────────────────────────────────────────────────────────────────────────
 
@@ -285,9 +290,12 @@ next-known list {image} call answer accepted e k S =
     ∙ call-premium (decode image) c [] (good image c Z) (Z .number) k
     ∙ ap (premiumBy k c (acceptedWith [])) S
 
-pub premiums-known : PremiumsKnown
+known-after : {list : List Exchange} {image : List ℕ} → OneByOne (encode freshZone) list image → (k : ℕ) → receiptIn image k .premium .0 ≡ premiumAfter k (map fed list)
 unfolding premiumAfter
-premiums-known list image noCalls k = fresh-premium k
-premiums-known _ _ (next {list} {image} m call answer number image′ answer′ R) k =
+known-after none-made k = fresh-premium k
+known-after (then {list} {image} m call answer number image′ answer′ R) k =
     let C = returned-case image call answer number image′ answer′ R in
-    next-known list call answer (C .left) (C .is) k (premiums-known list image m k)
+    next-known list call answer (C .left) (C .is) k (known-after m k)
+
+pub premiums-known : PremiumsKnown
+premiums-known list image m = known-after (one-by-one m)

@@ -27,7 +27,8 @@ use Rattle.answers.specs.Buffers.{callIn, entriesIn}
 use Rattle.calls.specs.Laws.Lots.{all-lots}
 use Rattle.visits.specs.Laws.Strikes.{by-quote}
 use Rattle.claims.specs.PriceOrder.{EachEntry, Apart, StrikesBid, ByPrice, strikesOf, QuoteByPrice}
-use Rattle.claims.specs.Laws.Demand.{good-image, Zero, accepted-call, read-back}
+use Rattle.crz.specs.Laws.Valid.{good-image, Zero}
+use Rattle.claims.specs.Laws.Calls.{accepted-call, read-back}
 use Rattle.claims.specs.Laws.Kept.{lots-ordered}
 use Rattle.claims.specs.Laws.Order.{ascending-apart, each-map, permuted-apart, permuted-each, price-permuted, price-descending}
 

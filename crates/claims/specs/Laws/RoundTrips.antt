@@ -3,7 +3,7 @@
 use native.Mathlib.Omega.{arith}
 use Rattle.image.specs.Laws.RoundTrip.{decode-encode, valid-encode, bytes-encode, encode-decode, valid-decode, decode-sized}
 use Rattle.answers.specs.Laws.ReadBack.{entries-back}
-use Rattle.claims.specs.Laws.Demand.{numbered}
+use Rattle.claims.specs.Laws.Calls.{numbered}
 use Rattle.claims.specs.RoundTrips.{RoundTrips}
 
 pub round-trips : RoundTrips

@@ -1,6 +1,6 @@
 -- Calls in turn, as the walk over a table makes them.
 -- Assumes nothing.
-use mathlib.Core.Bool.{Bool, true, false}
+use mathlib.Core.Bool.{Bool, true, false, cond}
 use mathlib.Core.List.{List, [], _∷_, _++_, map, append-assoc}
 use mathlib.Core.Path.{_≡_, refl, sym, ap, _∙_}
 use Prim.Native.Nat.{ℕ, suc, _+_, _*_, _/_, _%_, _≤_, _<_}
@@ -14,7 +14,7 @@ use Rattle.zone.specs.Laws.Tests.{both}
 use Rattle.rules.specs.declared.Call.{Call}
 use Rattle.image.specs.Image.{validImage}
 use Rattle.answers.specs.Buffers.{callLength, mostCalls, answerLength, noCall, callOrNone, callRecords}
-use Rattle.crz.specs.CallTable.{inTurn, tableFits, tableEntry}
+use Rattle.crz.specs.CallTable.{inTurn, tableFits, tableEntry, TableReturned}
 use Rattle.crz.specs.Returned.{Return, callWith, callEntry}
 use Rattle.crz.specs.Laws.Returned.{record-call}
 use Rattle.crz.specs.Laws.Valid.{same-verdict}
@@ -64,6 +64,35 @@ module _ (image calls answers : List ℕ) where
       → (image′, answers′) ≡ inTurn callWith image (map callOrNone (callRecords calls)) answers → (0, image′, answers′) ≡ tableEntry image calls answers
   unfolding tableEntry
   table-made h {image′} {answers′} e = rw h (ap (λ (r : List ℕ × List ℕ). (0, r .0, r .1)) (e ∙ records-in-turn (callRecords calls) image answers))
+
+-- ── From what was returned ─────────────────────────────────────────────────────────────────────
+
+-- of a table that returned 0
+pub record Taken (image calls answers image′ answers′ : List ℕ) : Type 0 where
+  pub fits : tableFits (length calls) (length answers) ≡ true
+  pub image-is : image′ ≡ inTurn callEntry image (callRecords calls) answers .0
+  pub answers-are : answers′ ≡ inTurn callEntry image (callRecords calls) answers .1
+
+module _ (image calls answers : List ℕ) where
+  abbrev entryBy : Bool → Return
+  entryBy b = let made = inTurn callEntry image (callRecords calls) answers in cond b (0, made .0, made .1) (14, image, answers)
+
+  pub table-taken : (image′ answers′ : List ℕ) → TableReturned image calls answers 0 image′ answers′ → Taken image calls answers image′ answers′
+  unfolding tableEntry
+  table-taken image′ answers′ = go (tableFits (length calls) (length answers)) refl
+    where
+      go : (b : Bool) → tableFits (length calls) (length answers) ≡ b → (0, image′, answers′) ≡ entryBy b → Taken image calls answers image′ answers′
+      go true f e = record { fits = f; image-is = ap (λ (r : Return). r .1) e; answers-are = ap (λ (r : Return). r .2) e }
+      go false f e = let no : _≡_ {A = ℕ} 0 14 = ap (λ (r : Return). r .0) e in absurd (omega arith)
+
+  pub table-left : (n : ℕ) (image′ answers′ : List ℕ) → TableReturned image calls answers (suc n) image′ answers′
+      → (suc n ≡ 14) × (image′ ≡ image) × (answers′ ≡ answers)
+  unfolding tableEntry
+  table-left n image′ answers′ = go (tableFits (length calls) (length answers))
+    where
+      go : (b : Bool) → (suc n, image′, answers′) ≡ entryBy b → (suc n ≡ 14) × (image′ ≡ image) × (answers′ ≡ answers)
+      go true e = let no : suc n ≡ 0 = ap (λ (r : Return). r .0) e in absurd (omega arith)
+      go false e = (ap (λ (r : Return). r .0) e, ap (λ (r : Return). r .1) e, ap (λ (r : Return). r .2) e)
 
 -- ── The walk ───────────────────────────────────────────────────────────────────────────────────
 
