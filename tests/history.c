@@ -1,9 +1,11 @@
 /*
- * The history table beside the runs of the vectors: fed with call records and answers alone, and after every call held
- * against the image. Usage: history LIST. The last line is 'N passed, M failed'; a call with its four sentences counts
- * once.
+ * The history table beside the runs of the vectors: fed with call records and answers alone, and after every call, or
+ * table of calls, held against the image. A table's calls are fed one by one, each with its own answer, which tells
+ * whether it was accepted; one that was not made feeds nothing. Usage: history LIST. The last line is 'N passed, M
+ * failed'; a call or a table with its four sentences counts once.
  */
 #include "../host/history.h"
+#include "../include/crz_records.h"
 #include "vector_file.h"
 
 #include <stdio.h>
@@ -18,8 +20,27 @@ static int start(void)
     return crz_fresh(image, sizeof image) == CRZ_NUMBER_ACCEPTED;
 }
 
-/* whether the call is answered as the vectors say and all four sentences hold after it */
-static int holds(const struct vector_step *step)
+/* the first finding, if there is one */
+static struct finding feed_table(struct history *table, const uint8_t *calls, size_t count, const uint8_t *answers)
+{
+    struct finding finding = {SENTENCE_NONE, 0};
+    size_t i;
+    for (i = 0; i < count && finding.sentence == SENTENCE_NONE; i++)
+        if (answers[crz_answer_offset(i) + CRZ_ANSWER_NUMBER] == CRZ_NUMBER_ACCEPTED)
+            finding = history_feed(table, calls + crz_call_offset(i), answers + crz_answer_offset(i));
+    return finding;
+}
+
+/* whether all four sentences hold after what was made */
+static int holds(struct finding finding)
+{
+    if (finding.sentence == SENTENCE_NONE)
+        finding = history_hold(&history, image);
+    return finding.sentence == SENTENCE_NONE;
+}
+
+/* a call or a table: whether it is answered as the vectors say and leaves what the history says */
+static int call_holds(const struct vector_step *step)
 {
     struct finding finding = {SENTENCE_NONE, 0};
     uint32_t number;
@@ -27,9 +48,18 @@ static int holds(const struct vector_step *step)
     number = crz_call(image, sizeof image, step->call, step->call_len, answer, step->answer_len);
     if (number == CRZ_NUMBER_ACCEPTED)
         finding = history_feed(&history, step->call, answer);
-    if (finding.sentence == SENTENCE_NONE)
-        finding = history_hold(&history, image);
-    return number == step->number && finding.sentence == SENTENCE_NONE;
+    return number == step->number && holds(finding);
+}
+
+static int table_holds(const struct vector_step *step)
+{
+    struct finding finding = {SENTENCE_NONE, 0};
+    uint32_t number;
+    memset(answer, VECTOR_FILL, step->answer_len);
+    number = crz_table(image, sizeof image, step->call, step->call_len, answer, step->answer_len);
+    if (number == CRZ_NUMBER_ACCEPTED)
+        finding = feed_table(&history, step->call, step->call_len / CRZ_CALL_LENGTH, answer);
+    return number == step->number && holds(finding);
 }
 
 /* the table knows an image only from its fresh start on */
@@ -37,7 +67,8 @@ static int make(const struct vector_step *step)
 {
     switch (step->kind) {
     case STEP_FRESH: return start();
-    case STEP_CALL: return holds(step);
+    case STEP_CALL: return call_holds(step);
+    case STEP_TABLE: return table_holds(step);
     default: return 0;
     }
 }
