@@ -45,7 +45,7 @@ void draw_table(struct table *t, const uint8_t *image)
         t->image_len = percent(50) ? CRZ_IMAGE_LENGTH - 1 : CRZ_IMAGE_LENGTH + (size_t)between(1, SPARE);
 }
 
-/* a byte too few, an answer too few, eight bytes too few for each, or any; of a table without calls none is too few */
+/* a byte too few, an answer too few, eight bytes too few for each, or any; a table without calls needs none */
 static void shorten_answers(struct table *t)
 {
     size_t needed = t->answers_len, count = t->calls_len / CRZ_CALL_LENGTH;
@@ -60,14 +60,18 @@ static void shorten_answers(struct table *t)
 
 void draw_bad_table(struct table *t, const uint8_t *image)
 {
-    size_t count = some_count(),
-           too_many = percent(50) ? CRZ_TABLE_COUNT + 1 : (size_t)between(CRZ_TABLE_COUNT + 1, MOST_CALLS);
-    uint64_t fault = below(3);
-    draw_calls(t, image, fault == 0 ? too_many : count);
-    if (fault == 1) {
+    enum { CALLS_TOO_MANY, PART_OF_A_CALL, ANSWERS_TOO_SHORT, FAULTS };
+    uint64_t fault = below(FAULTS);
+    size_t count = some_count();
+    if (fault == CALLS_TOO_MANY)
+        count = (size_t)between(CRZ_TABLE_COUNT + 1, MOST_CALLS);
+    else if (fault == ANSWERS_TOO_SHORT && count == 0)
+        count = 1;
+    draw_calls(t, image, count);
+    if (fault == PART_OF_A_CALL) {
         t->calls_len += (size_t)between(1, CRZ_CALL_LENGTH - 1);
         t->answers_len += CRZ_ANSWER_LENGTH;
     }
-    if (fault == 2 || percent(15))
+    if (fault == ANSWERS_TOO_SHORT || percent(15))
         shorten_answers(t);
 }
