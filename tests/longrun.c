@@ -68,7 +68,7 @@ static void judge_made_up(const struct making *making)
     plain = saved_plain;
 }
 
-/* the same with a table, whose calls are drawn for the image before */
+/* the same with a table, whose calls are drawn for the image before; 14 does not ask for the image */
 static void judge_by_table(const struct making *making)
 {
     static struct side saved_library, saved_plain;
@@ -77,7 +77,10 @@ static void judge_by_table(const struct making *making)
     saved_plain = plain;
     making->make(library.image);
     memcpy(plain.image, library.image, sizeof plain.image);
-    draw_table(&t, saved_library.image);
+    if (percent(20))
+        draw_bad_table(&t, saved_library.image);
+    else
+        draw_table(&t, saved_library.image);
     compare_table(&t);
     library = saved_library;
     plain = saved_plain;

@@ -115,8 +115,9 @@ static unsigned long reasons[REASONS];
 enum { ANSWER_SHORT, EIGHT_EACH_SHORT, BYTE_SHORT, ELSE_SHORT, ENOUGH, ANSWER_MORE, ELSE_MORE, ANSWERS };
 static unsigned long table_answers[VERDICTS][ANSWERS];
 
-/* tables that were made: without calls and with calls, on a valid image and on one that is not */
-static unsigned long table_images[VERDICTS][2];
+/* tables on a valid image and on one that is not: made, without calls and with calls, and of 14 */
+enum { WITHOUT_CALLS, WITH_CALLS, NOT_MADE, TABLE_KINDS };
+static unsigned long table_images[VERDICTS][TABLE_KINDS];
 
 /* their answers: numbers, accepted kinds, outcomes */
 static unsigned long table_numbers[NUMBERS], table_kinds[KINDS], table_outcomes[OUTCOMES];
@@ -507,11 +508,11 @@ static void count_calls(const struct made_table *made, size_t count)
 void count_table(const struct made_table *made)
 {
     size_t count = made->table->calls_len / CRZ_CALL_LENGTH;
-    count_lengths(made->table, made->number != CRZ_NUMBER_ACCEPTED);
-    if (made->number != CRZ_NUMBER_ACCEPTED)
-        return;
-    table_images[!made->valid][count != 0]++;
-    count_calls(made, count);
+    int refused = made->number != CRZ_NUMBER_ACCEPTED;
+    count_lengths(made->table, refused);
+    table_images[!made->valid][refused ? NOT_MADE : count == 0 ? WITHOUT_CALLS : WITH_CALLS]++;
+    if (!refused)
+        count_calls(made, count);
 }
 
 /* ── What was reached ──────────────────────────────────────────────────────────────────────────── */
@@ -659,9 +660,9 @@ static void show_tables(void)
         "more");
     show_row("made", table_answers[0], "----+++");
     show_row("14", table_answers[1], "++++---");
-    printf("%-22s %6s %6s\n", "tables made", "empty", "calls");
-    show_row("on a valid image", table_images[0], "++");
-    show_row("on one that is not", table_images[1], "++");
+    printf("%-22s %6s %6s %6s\n", "tables", "empty", "calls", "14");
+    show_row("on a valid image", table_images[0], "+++");
+    show_row("on one that is not", table_images[1], "+++");
     show_table_calls();
 }
 
