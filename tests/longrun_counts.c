@@ -428,12 +428,16 @@ static size_t size_place(size_t count)
 
 static size_t answers_place(size_t count, size_t length)
 {
-    size_t enough = crz_answer_offset(count), more = length - enough, less = enough - length;
-    if (length >= enough)
-        return more == 0 ? ENOUGH : more == CRZ_ANSWER_LENGTH ? ANSWER_MORE : ELSE_MORE;
+    size_t enough = crz_answer_offset(count), less = enough - length;
+    if (length == enough)
+        return ENOUGH;
+    if (length > enough)
+        return length == enough + CRZ_ANSWER_LENGTH ? ANSWER_MORE : ELSE_MORE;
     if (less == CRZ_ANSWER_LENGTH)
         return ANSWER_SHORT;
-    return less == 1 ? BYTE_SHORT : less == CRZ_ENTRY_LENGTH * count ? EIGHT_EACH_SHORT : ELSE_SHORT;
+    if (less == CRZ_ENTRY_LENGTH * count)
+        return EIGHT_EACH_SHORT;
+    return less == 1 ? BYTE_SHORT : ELSE_SHORT;
 }
 
 static void count_lengths(const struct table *t, int refused)
@@ -508,9 +512,12 @@ static void count_calls(const struct made_table *made, size_t count)
 void count_table(const struct made_table *made)
 {
     size_t count = made->table->calls_len / CRZ_CALL_LENGTH;
+    unsigned long *images = table_images[!made->valid];
     int refused = made->number != CRZ_NUMBER_ACCEPTED;
     count_lengths(made->table, refused);
-    table_images[!made->valid][refused ? NOT_MADE : count == 0 ? WITHOUT_CALLS : WITH_CALLS]++;
+    images[NOT_MADE] += refused != 0;
+    images[WITHOUT_CALLS] += !refused && count == 0;
+    images[WITH_CALLS] += !refused && count != 0;
     if (!refused)
         count_calls(made, count);
 }
@@ -656,8 +663,8 @@ static void show_tables(void)
     show_row("14", table_sizes[1], "+++++++");
     printf("%-22s %6s %6s %6s %6s\n", "reasons for 14", "many", "part", "short", "more");
     show_row("by itself, several", reasons, "++++");
-    printf("%-22s %6s %6s %6s %6s %6s %6s %6s\n", "bytes for answers", "-1040", "-8n", "-1", "less", "enough", "+1040",
-        "more");
+    printf("%-22s %6s %6s %6s %6s %6s %6s %6s\n", "bytes for answers", "-1,040", "-8n", "-1", "less", "enough",
+        "+1,040", "more");
     show_row("made", table_answers[0], "----+++");
     show_row("14", table_answers[1], "++++---");
     printf("%-22s %6s %6s %6s\n", "tables", "empty", "calls", "14");

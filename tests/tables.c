@@ -320,16 +320,23 @@ static void try_bad_images(void)
 
 /* ── Order, and refused calls ──────────────────────────────────────────────────────────────────── */
 
-/* every second call needs what the one before has done */
-static void try_chain(void)
+/* every second call takes out what the one before has paid in */
+static void try_pairs(void)
 {
     uint32_t i;
-    start_fresh("each call needs the one before");
+    start_fresh("each second call needs the one before");
     for (i = 0; i < CRZ_TABLE_COUNT; i += 2) {
         crz_put_pay_in(next(CRZ_NUMBER_ACCEPTED), 1 + i, 7 + i);
         crz_put_take_out(next(CRZ_NUMBER_ACCEPTED), 1 + i, 7 + i);
     }
     try_table();
+}
+
+/* each call but every fourth needs what the one before has done */
+static void try_chains(void)
+{
+    uint32_t i;
+    start_fresh("calls that need those before them");
     for (i = 0; i < CRZ_TABLE_COUNT / 4; i++) {
         crz_put_register(next(CRZ_NUMBER_ACCEPTED), 1, CRZ_RECEIPT_COUNT - i, CRZ_WEIGHT_LEAST, 0);
         crz_put_list(next(CRZ_NUMBER_ACCEPTED), 1, CRZ_RECEIPT_COUNT - i, 1, 0, 0);
@@ -775,14 +782,18 @@ static void try_drawn(enum crz_phase phase)
 /* ── All ───────────────────────────────────────────────────────────────────────────────────────── */
 
 /* a table has neither 1 nor 14 in an answer */
-static void expect_reached(void)
+static void expect_all_numbers(void)
 {
     unsigned i;
-    part = "all tables";
     for (i = 0; i < NUMBERS; i++)
         expect((numbers[i] != 0) == (i != CRZ_NUMBER_SHORT_ANSWER), "every number but 1 stands in an answer");
+}
+
+static void expect_all_outcomes(void)
+{
+    unsigned i;
     for (i = CRZ_OUTCOME_REGISTERED; i <= CRZ_OUTCOME_PENALTY; i++)
-        expect(outcomes[i] != 0, "every outcome");
+        expect(outcomes[i] != 0, "every outcome stands in an answer");
 }
 
 static void try_phase(enum crz_phase phase)
@@ -798,7 +809,8 @@ int main(void)
     try_each_length();
     try_empty();
     try_bad_images();
-    try_chain();
+    try_pairs();
+    try_chains();
     try_refused_places();
     try_trades();
     try_every_number();
@@ -806,7 +818,9 @@ int main(void)
     try_full_answers(PRICE);
     try_phase(CRZ_PHASE_MORNING);
     try_phase(CRZ_PHASE_AFTERNOON);
-    expect_reached();
+    part = "all tables";
+    expect_all_numbers();
+    expect_all_outcomes();
     printf("%lu tables\n%lu passed, %lu failed\n", tables, passed, failed);
     return failed != 0;
 }
