@@ -685,6 +685,7 @@ static void try_full_answers(uint64_t first_ask)
 
 /* ── Tables that are drawn ─────────────────────────────────────────────────────────────────────── */
 
+/* C leaves the order of arguments open: no expression draws twice, so the tables are the same under every compiler */
 static uint64_t random_state = UINT64_C(0x9e3779b97f4a7c15);
 
 static uint32_t below(uint32_t n)
@@ -725,10 +726,9 @@ static void draw_for_listing(uint8_t *call, const struct crz_receipt_fields *rec
 static void draw_step(uint8_t *call, const struct crz_receipt_fields *receipt, uint32_t lot)
 {
     uint64_t full = crz_full_payment(receipt), half = full / 2 + 1;
+    uint32_t contract = 1 + below(CRZ_CONTRACT_COUNT), days = below(CRZ_DAYS_MOST + 1);
     switch (receipt->state) {
-    case CRZ_STATE_IDLE:
-        crz_put_list(call, receipt->owner, lot, 1 + below(CRZ_CONTRACT_COUNT), below(CRZ_DAYS_MOST + 1), 0);
-        return;
+    case CRZ_STATE_IDLE: crz_put_list(call, receipt->owner, lot, contract, days, 0); return;
     case CRZ_STATE_LISTED:
     case CRZ_STATE_BID_STANDS: draw_for_listing(call, receipt, lot); return;
     case CRZ_STATE_STRUCK: crz_put_lodge(call, receipt->seller, lot); return;
