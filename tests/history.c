@@ -20,14 +20,14 @@ static int start(void)
     return crz_fresh(image, sizeof image) == CRZ_NUMBER_ACCEPTED;
 }
 
-/* the first finding, if there is one */
-static struct finding feed_table(struct history *table, const uint8_t *calls, size_t count, const uint8_t *answers)
+/* the calls of a table, up to the first finding */
+static struct finding feed_table(struct history *into, const uint8_t *calls, size_t count, const uint8_t *answers)
 {
     struct finding finding = {SENTENCE_NONE, 0};
     size_t i;
     for (i = 0; i < count && finding.sentence == SENTENCE_NONE; i++)
         if (answers[crz_answer_offset(i) + CRZ_ANSWER_NUMBER] == CRZ_NUMBER_ACCEPTED)
-            finding = history_feed(table, calls + crz_call_offset(i), answers + crz_answer_offset(i));
+            finding = history_feed(into, calls + crz_call_offset(i), answers + crz_answer_offset(i));
     return finding;
 }
 
@@ -39,7 +39,7 @@ static int holds(struct finding finding)
     return finding.sentence == SENTENCE_NONE;
 }
 
-/* a call or a table: whether it is answered as the vectors say and leaves what the history says */
+/* whether the call is answered as the vectors say and leaves what the history says */
 static int call_holds(const struct vector_step *step)
 {
     struct finding finding = {SENTENCE_NONE, 0};
@@ -51,6 +51,7 @@ static int call_holds(const struct vector_step *step)
     return number == step->number && holds(finding);
 }
 
+/* the same of a table of calls */
 static int table_holds(const struct vector_step *step)
 {
     struct finding finding = {SENTENCE_NONE, 0};
@@ -94,6 +95,30 @@ static void count_wrong(struct tally *tally)
     }
 }
 
+/* whether a history that was fed with so many calls of a table holds */
+static void count_fed(struct tally *tally, const uint8_t *calls, size_t count, enum sentence wanted)
+{
+    static struct history fed;
+    history_start(&fed);
+    feed_table(&fed, calls, count, answer);
+    ++*(history_hold(&fed, image).sentence == wanted ? &tally->passed : &tally->failed);
+}
+
+/* the second call is refused and tells nothing */
+static void count_tables(struct tally *tally)
+{
+    uint8_t calls[3 * CRZ_CALL_LENGTH];
+    start();
+    crz_put_pay_in(calls, 3, 7);
+    crz_put_take_out(calls + crz_call_offset(1), 4, 1);
+    crz_put_take_out(calls + crz_call_offset(2), 3, 2);
+    crz_table(image, sizeof image, calls, sizeof calls, answer, crz_answer_offset(3));
+    count_fed(tally, calls, 3, SENTENCE_NONE);
+    count_fed(tally, calls, 2, SENTENCE_BOOKS);
+    crz_put_pay_in(calls + crz_call_offset(2), 3, 2);
+    count_fed(tally, calls, 3, SENTENCE_BOOKS);
+}
+
 int main(int argc, char **argv)
 {
     struct tally tally = {0, 0};
@@ -103,5 +128,6 @@ int main(int argc, char **argv)
     }
     walk_vectors(argv[1], "run-", make, &tally);
     count_wrong(&tally);
+    count_tables(&tally);
     return show_tally(&tally);
 }
