@@ -102,8 +102,8 @@ static unsigned long misplaced[HELD_PLACES][VERDICTS][HOLDERS];
 enum { SEVERAL, AT_ONE_PRICE, AT_DIFFERENT_PRICES, AT_BOTH, EVERY_LOT, QUOTES };
 static unsigned long quotes[QUOTES];
 
-/* tables by how many whole calls they have, none, 1, 2, up to 30, 31, 32, more: those that were made and those of 14 */
-enum { UP_TO_TWO = 2, BETWEEN_ENDS, ONE_BELOW_MOST, MOST_OF_ALL, TOO_LARGE, SIZES };
+/* tables by how many whole calls they have, none, 1, 2, up to 30, 31, 32, 33, more: those made and those of 14 */
+enum { UP_TO_TWO = 2, BETWEEN_ENDS, ONE_BELOW_MOST, JUST_THE_MOST, ONE_TOO_MANY, FAR_TOO_MANY, SIZES };
 static unsigned long table_sizes[VERDICTS][SIZES];
 
 /* what tables were 14 for, by itself, and several of these at once */
@@ -423,7 +423,7 @@ static size_t size_place(size_t count)
         return count;
     if (count < CRZ_TABLE_COUNT - 1)
         return BETWEEN_ENDS;
-    return count > CRZ_TABLE_COUNT ? TOO_LARGE : ONE_BELOW_MOST + count - (CRZ_TABLE_COUNT - 1);
+    return count > CRZ_TABLE_COUNT + 1 ? FAR_TOO_MANY : ONE_BELOW_MOST + count - (CRZ_TABLE_COUNT - 1);
 }
 
 static size_t answers_place(size_t count, size_t length)
@@ -658,9 +658,10 @@ static void show_table_calls(void)
 
 static void show_tables(void)
 {
-    printf("%-22s %6s %6s %6s %6s %6s %6s %6s\n", "calls of a table", "0", "1", "2", "3-30", "31", "32", "more");
-    show_row("made", table_sizes[0], "++++++-");
-    show_row("14", table_sizes[1], "+++++++");
+    printf(
+        "%-22s %6s %6s %6s %6s %6s %6s %6s %6s\n", "calls of a table", "0", "1", "2", "3-30", "31", "32", "33", "more");
+    show_row("made", table_sizes[0], "++++++--");
+    show_row("14", table_sizes[1], "++++++++");
     printf("%-22s %6s %6s %6s %6s\n", "reasons for 14", "many", "part", "short", "more");
     show_row("by itself, several", reasons, "++++");
     printf("%-22s %6s %6s %6s %6s %6s %6s %6s\n", "bytes for answers", "-1,040", "-8n", "-1", "less", "enough",
