@@ -1,15 +1,16 @@
 /*
  * Time per call of the library and of the plain C ledger (plain.c, once from each compiler), through one interface in
  * one run: for each row the least time of many rounds, a round being one call on each of a few images in the same
- * state. All rows are swept several times, so that a slow moment of the machine does not meet one row alone.
+ * state. All rows are swept several times, so that a slow moment of the machine does not meet one row alone. Two rows
+ * make the same calls, in one table and singly: theirs is the time of all of these calls together.
  *
- * bench              the table of times; the ratio is the library's to the faster of the plain ones
+ * bench              the times; the ratio is the library's to the faster of the plain ones
  * bench rows         the names of the rows
  * bench LEDGER ROW   one round of one row, to count its instructions: LEDGER is library, gcc or clang
  *
- * A row is a call, the image that it finds and what it returns. A new one is a line of `rows`, and a function that
- * fills its image if none of the six here will do. An entry of another form is a field more of `ledgers`, and is
- * called in one_round.
+ * A row is a call, the image that it finds, what it returns and how it is made. A new one is a line of `rows`, and a
+ * function that fills its image if none of the six here will do. An entry of another form is a field more of `ledgers`,
+ * and is called in make_row.
  */
 #define _POSIX_C_SOURCE 200809L
 
@@ -20,9 +21,10 @@
 
 #include "../include/crz_records.h"
 
-typedef uint32_t ledger_call(
-    uint8_t *image, size_t image_len, const uint8_t *call, size_t call_len, uint8_t *answer, size_t answer_len);
-ledger_call plain_gcc_call, plain_clang_call;
+/* crz_call and crz_table have one form */
+typedef uint32_t ledger_entry(
+    uint8_t *image, size_t image_len, const uint8_t *calls, size_t calls_len, uint8_t *answers, size_t answers_len);
+ledger_entry plain_gcc_call, plain_gcc_table, plain_clang_call, plain_clang_table;
 
 enum { IMAGES = 16, ROUNDS = 1000, SWEEPS = 10, DAY = 5, PRICE = 15000, WEIGHT = 41237 };
 enum { CONFIRMED = 20000000, PENDING = 10000000 };
@@ -31,12 +33,12 @@ enum { LOT = 3, BIDDER = 90, TRADE = 7, PAYER = 55, LAST = CRZ_RECEIPT_COUNT };
 /* the library comes first */
 static const struct ledger {
     const char *name;
-    ledger_call *call;
+    ledger_entry *call, *table;
 } ledgers[] = {
-    {"library", crz_call},
-    {"gcc", plain_gcc_call},
+    {"library", crz_call, crz_table},
+    {"gcc", plain_gcc_call, plain_gcc_table},
 #ifndef WITHOUT_CLANG
-    {"clang", plain_clang_call},
+    {"clang", plain_clang_call, plain_clang_table},
 #endif
 };
 
@@ -175,6 +177,9 @@ static void bid_for(uint8_t *image)
 
 /* ── Rows ──────────────────────────────────────────────────────────────────────────────────────── */
 
+/* one call; as many calls as a table can have, singly and in one table */
+enum way { ONE_CALL, SINGLY, IN_TABLE };
+
 struct row {
     const char *name;
     void (*fill)(uint8_t *image);
@@ -182,27 +187,30 @@ struct row {
     uint8_t account, receipt, contract;
     uint64_t amount;
     uint32_t number; /* what is returned */
+    enum way way;
 };
 
 /* on the busy image LOT has a standing bid at PRICE, of contract 1; on the idle one it is listed. TRADE waits for PAYER
  * to confirm an invoice */
 static const struct row rows[] = {
-    {"quote, busy", busy, CRZ_KIND_QUOTE, 0, 0, 1, PRICE, CRZ_NUMBER_ACCEPTED},
-    {"quote, idle", idle, CRZ_KIND_QUOTE, 0, 0, 1, PRICE, CRZ_NUMBER_ACCEPTED},
-    {"quote, 128 strikes", bid_for, CRZ_KIND_QUOTE, 0, 0, 1, PRICE, CRZ_NUMBER_ACCEPTED},
-    {"pay in, busy", busy, CRZ_KIND_PAY_IN, 1, 0, 0, 100, CRZ_NUMBER_ACCEPTED},
-    {"pay in, idle", idle, CRZ_KIND_PAY_IN, 1, 0, 0, 100, CRZ_NUMBER_ACCEPTED},
-    {"register, busy", busy_but_last, CRZ_KIND_REGISTER, 1, LAST, 0, 0, CRZ_NUMBER_ACCEPTED},
-    {"register, idle", idle, CRZ_KIND_REGISTER, 1, LAST, 0, 0, CRZ_NUMBER_ACCEPTED},
-    {"limit bid, busy", busy, CRZ_KIND_LIMIT_BID, BIDDER, LOT, 0, PRICE + 5, CRZ_NUMBER_ACCEPTED},
-    {"limit bid, idle", idle, CRZ_KIND_LIMIT_BID, BIDDER, LOT, 0, PRICE + 5, CRZ_NUMBER_ACCEPTED},
-    {"morning close, busy", busy, CRZ_KIND_MORNING_CLOSE, 0, 0, 0, 0, CRZ_NUMBER_ACCEPTED},
-    {"morning close, idle", idle, CRZ_KIND_MORNING_CLOSE, 0, 0, 0, 0, CRZ_NUMBER_ACCEPTED},
-    {"confirmation, busy", busy, CRZ_KIND_CONFIRM, PAYER, TRADE, 0, 0, CRZ_NUMBER_ACCEPTED},
-    {"confirmation, idle", idle_but_trade, CRZ_KIND_CONFIRM, PAYER, TRADE, 0, 0, CRZ_NUMBER_ACCEPTED},
-    {"refusal, busy", busy, CRZ_KIND_LODGE, 1, 1, 0, 0, CRZ_NUMBER_WRONG_STATE},
-    {"refusal, idle", idle, CRZ_KIND_LODGE, 1, 1, 0, 0, CRZ_NUMBER_WRONG_STATE},
-    {"refusal, half", half, CRZ_KIND_LODGE, 1, 1, 0, 0, CRZ_NUMBER_WRONG_STATE},
+    {"quote, busy", busy, CRZ_KIND_QUOTE, 0, 0, 1, PRICE, CRZ_NUMBER_ACCEPTED, ONE_CALL},
+    {"quote, idle", idle, CRZ_KIND_QUOTE, 0, 0, 1, PRICE, CRZ_NUMBER_ACCEPTED, ONE_CALL},
+    {"quote, 128 strikes", bid_for, CRZ_KIND_QUOTE, 0, 0, 1, PRICE, CRZ_NUMBER_ACCEPTED, ONE_CALL},
+    {"pay in, busy", busy, CRZ_KIND_PAY_IN, 1, 0, 0, 100, CRZ_NUMBER_ACCEPTED, ONE_CALL},
+    {"pay in, idle", idle, CRZ_KIND_PAY_IN, 1, 0, 0, 100, CRZ_NUMBER_ACCEPTED, ONE_CALL},
+    {"register, busy", busy_but_last, CRZ_KIND_REGISTER, 1, LAST, 0, 0, CRZ_NUMBER_ACCEPTED, ONE_CALL},
+    {"register, idle", idle, CRZ_KIND_REGISTER, 1, LAST, 0, 0, CRZ_NUMBER_ACCEPTED, ONE_CALL},
+    {"limit bid, busy", busy, CRZ_KIND_LIMIT_BID, BIDDER, LOT, 0, PRICE + 5, CRZ_NUMBER_ACCEPTED, ONE_CALL},
+    {"limit bid, idle", idle, CRZ_KIND_LIMIT_BID, BIDDER, LOT, 0, PRICE + 5, CRZ_NUMBER_ACCEPTED, ONE_CALL},
+    {"morning close, busy", busy, CRZ_KIND_MORNING_CLOSE, 0, 0, 0, 0, CRZ_NUMBER_ACCEPTED, ONE_CALL},
+    {"morning close, idle", idle, CRZ_KIND_MORNING_CLOSE, 0, 0, 0, 0, CRZ_NUMBER_ACCEPTED, ONE_CALL},
+    {"confirmation, busy", busy, CRZ_KIND_CONFIRM, PAYER, TRADE, 0, 0, CRZ_NUMBER_ACCEPTED, ONE_CALL},
+    {"confirmation, idle", idle_but_trade, CRZ_KIND_CONFIRM, PAYER, TRADE, 0, 0, CRZ_NUMBER_ACCEPTED, ONE_CALL},
+    {"refusal, busy", busy, CRZ_KIND_LODGE, 1, 1, 0, 0, CRZ_NUMBER_WRONG_STATE, ONE_CALL},
+    {"refusal, idle", idle, CRZ_KIND_LODGE, 1, 1, 0, 0, CRZ_NUMBER_WRONG_STATE, ONE_CALL},
+    {"refusal, half", half, CRZ_KIND_LODGE, 1, 1, 0, 0, CRZ_NUMBER_WRONG_STATE, ONE_CALL},
+    {"32 quotes singly, busy", busy, CRZ_KIND_QUOTE, 0, 0, 0, 0, CRZ_NUMBER_ACCEPTED, SINGLY},
+    {"table of 32 quotes, busy", busy, CRZ_KIND_QUOTE, 0, 0, 0, 0, CRZ_NUMBER_ACCEPTED, IN_TABLE},
 };
 
 enum { ROWS = sizeof rows / sizeof rows[0] };
@@ -216,15 +224,30 @@ static double now(void)
     return (double)t.tv_sec * 1e9 + (double)t.tv_nsec;
 }
 
-static void prepare(const struct row *row, uint8_t *image, uint8_t *call)
+static uint8_t calls[CRZ_TABLE_COUNT * CRZ_CALL_LENGTH], answers[CRZ_TABLE_COUNT * CRZ_ANSWER_LENGTH];
+
+/* An ask for each contract by turns, which comes down to the bids of the busy image: in the third turn a quote strikes
+ * two lots, as the quote by itself does, in the others none. */
+static void put_quotes(void)
+{
+    uint32_t i;
+    for (i = 0; i < CRZ_TABLE_COUNT; i++) {
+        uint32_t contract = 1 + i % CRZ_CONTRACT_COUNT, turn = i / CRZ_CONTRACT_COUNT;
+        crz_put_quote(calls + crz_call_offset(i), contract, PRICE + 2 * CRZ_PRICE_STEP - CRZ_PRICE_STEP * turn);
+    }
+}
+
+static void prepare(const struct row *row, uint8_t *image)
 {
     crz_fresh(image, CRZ_IMAGE_LENGTH);
     crz_put_u16(image + CRZ_IMAGE_DAY, DAY);
     row->fill(image);
-    crz_put_plain_call(call, row->kind, row->account, row->receipt, row->amount);
-    call[CRZ_CALL_CONTRACT] = row->contract;
+    crz_put_plain_call(calls, row->kind, row->account, row->receipt, row->amount);
+    calls[CRZ_CALL_CONTRACT] = row->contract;
     if (row->kind == CRZ_KIND_REGISTER)
-        crz_put_register(call, row->account, row->receipt, WEIGHT, CRZ_PREMIUM_LEAST);
+        crz_put_register(calls, row->account, row->receipt, WEIGHT, CRZ_PREMIUM_LEAST);
+    if (row->way != ONE_CALL)
+        put_quotes();
 }
 
 static uint8_t images[IMAGES][CRZ_IMAGE_LENGTH];
@@ -236,19 +259,49 @@ static void copy_images(const uint8_t *image)
         memcpy(images[i], image, CRZ_IMAGE_LENGTH);
 }
 
-/* nanoseconds per call of one round */
-static double one_round(const struct ledger *ledger, const struct row *row, const uint8_t *image, const uint8_t *call)
+/* each call with an answer of its own, as in a table; the numbers together */
+static uint32_t make_singly(const struct ledger *ledger, uint8_t *image)
 {
-    static uint8_t answer[CRZ_ANSWER_LENGTH];
+    uint32_t numbers = 0;
+    size_t i;
+    for (i = 0; i < CRZ_TABLE_COUNT; i++)
+        numbers |= ledger->call(image, CRZ_IMAGE_LENGTH, calls + crz_call_offset(i), CRZ_CALL_LENGTH,
+            answers + crz_answer_offset(i), CRZ_ANSWER_LENGTH);
+    return numbers;
+}
+
+static uint32_t make_row(const struct ledger *ledger, const struct row *row, uint8_t *image)
+{
+    switch (row->way) {
+    case SINGLY: return make_singly(ledger, image);
+    case IN_TABLE: return ledger->table(image, CRZ_IMAGE_LENGTH, calls, sizeof calls, answers, sizeof answers);
+    default: return ledger->call(image, CRZ_IMAGE_LENGTH, calls, CRZ_CALL_LENGTH, answers, CRZ_ANSWER_LENGTH);
+    }
+}
+
+/* the numbers in the answers together: a table returns 0 whatever they are */
+static uint32_t answered(void)
+{
+    uint32_t numbers = 0;
+    size_t i;
+    for (i = 0; i < CRZ_TABLE_COUNT; i++)
+        numbers |= answers[crz_answer_offset(i) + CRZ_ANSWER_NUMBER];
+    return numbers;
+}
+
+/* nanoseconds of one round, per call or per table */
+static double one_round(const struct ledger *ledger, const struct row *row, const uint8_t *image)
+{
     uint32_t other = 0;
     double start, took;
     int i;
     copy_images(image);
     start = now();
     for (i = 0; i < IMAGES; i++)
-        other |=
-            row->number ^ ledger->call(images[i], CRZ_IMAGE_LENGTH, call, CRZ_CALL_LENGTH, answer, CRZ_ANSWER_LENGTH);
+        other |= row->number ^ make_row(ledger, row, images[i]);
     took = now() - start;
+    if (row->way == IN_TABLE)
+        other |= row->number ^ answered();
     if (other != 0) {
         fprintf(stderr, "%s, %s: returned another number than %u\n", row->name, ledger->name, (unsigned)row->number);
         exit(1);
@@ -259,14 +312,14 @@ static double one_round(const struct ledger *ledger, const struct row *row, cons
 /* least time of each row and ledger so far, 0 before the first */
 static double least[ROWS][LEDGERS];
 
-/* the ledgers take turns, so that all meet the same moods of the machine */
+/* the ledgers take turns, so that all meet the same moods of the machine; many calls in a round mean fewer rounds */
 static void measure(int row)
 {
-    uint8_t image[CRZ_IMAGE_LENGTH], call[CRZ_CALL_LENGTH];
-    int i;
-    prepare(&rows[row], image, call);
-    for (i = 0; i < ROUNDS * LEDGERS; i++) {
-        double took = one_round(&ledgers[i % LEDGERS], &rows[row], image, call), *best = &least[row][i % LEDGERS];
+    uint8_t image[CRZ_IMAGE_LENGTH];
+    int i, rounds = rows[row].way == ONE_CALL ? ROUNDS : ROUNDS / 8;
+    prepare(&rows[row], image);
+    for (i = 0; i < rounds * LEDGERS; i++) {
+        double took = one_round(&ledgers[i % LEDGERS], &rows[row], image), *best = &least[row][i % LEDGERS];
         if (*best == 0 || took < *best)
             *best = took;
     }
@@ -283,7 +336,7 @@ static void print_row(int row)
 {
     double faster = least[row][1];
     int i;
-    printf("%-22s", rows[row].name);
+    printf("%-24s", rows[row].name);
     for (i = 0; i < LEDGERS; i++) {
         printf(" %8.0f", least[row][i]);
         if (i > 0 && least[row][i] < faster)
@@ -295,7 +348,7 @@ static void print_row(int row)
 static void print_heads(void)
 {
     int i;
-    printf("%-22s", "ns per call, least");
+    printf("%-24s", "ns per call, least");
     for (i = 0; i < LEDGERS; i++)
         printf(" %8s", ledgers[i].name);
     printf(" %8s\n", "ratio");
@@ -323,13 +376,13 @@ static int one_round_of(const char *ledger_name, const char *row_name)
 {
     const struct ledger *ledger = ledger_named(ledger_name);
     const struct row *row = row_named(row_name);
-    uint8_t image[CRZ_IMAGE_LENGTH], call[CRZ_CALL_LENGTH];
+    uint8_t image[CRZ_IMAGE_LENGTH];
     if (ledger == NULL || row == NULL) {
         fprintf(stderr, "bench: no ledger %s or no row %s\n", ledger_name, row_name);
         return 2;
     }
-    prepare(row, image, call);
-    one_round(ledger, row, image, call);
+    prepare(row, image);
+    one_round(ledger, row, image);
     return 0;
 }
 

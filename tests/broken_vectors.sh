@@ -8,17 +8,21 @@ vectors=$(realpath "$1") history=$(realpath "$2") stack=$(realpath "$3")
 cd "$work" || exit 2
 
 # few lines of each kind: three calls of a run, its first that changes the image among them and none before them, so that nothing is
-# missed; an image whose call changes it and one with another length
+# missed, and a table of two calls of no kind, whose answers are the same on every image; an image whose call changes it, one with
+# another length, and one that a table of several calls changes
 mkdir whole broken
 awk '/^Z/ { print } /^C/ { call[++calls] = "" } /^[CRAI]/ { call[calls] = call[calls] $0 "\n" }
     /^I [0-9]/ && !last { last = calls < 3 ? 3 : calls }
     /^I/ && calls == last { printf "%s%s%s", call[last - 2], call[last - 1], call[last]; exit }' \
     "$here/tests/vectors/run-1.txt" >whole/run-1.txt
-awk '/^Z/ { block = "" } { block = block $0 "\n" }
-    /^I [0-9]/ && !accepted { printf "%s", block; accepted = 1 }
-    /^L/ { cut = !shorter } /^I/ && cut { printf "%s", block; cut = 0; shorter = 1 }' \
+printf 'T %096d 2081\nR 0\nA 03 03\nI same\n' 0 >>whole/run-1.txt
+awk '/^Z/ { block = made = "" } { block = block $0 "\n" } /^[LCT]/ { made = made substr($0, 1, 1) } /^A/ { words = NF - 1 }
+    /^I [0-9]/ && made == "C" && changed == "" { changed = block }
+    /^I/ && made == "LC" && shorter == "" { shorter = block }
+    /^I [0-9]/ && made == "T" && words > 1 && table == "" { table = block }
+    END { printf "%s%s%s", changed, shorter, table }' \
     "$here/tests/vectors/images.txt" >whole/images.txt
-printf '# remark\nrun-1.txt 1 0 0 3\nimages.txt 2 2 1 2\n' >whole/calls.txt
+printf '# remark\nrun-1.txt 1 0 0 3 1\nimages.txt 3 3 1 2 1\n' >whole/calls.txt
 for reader in "$vectors" "$history" "$stack"; do
     holds "$reader passes the whole copy" grep -qx '[1-9][0-9]* passed, 0 failed' \
         <<<"$("$reader" whole/calls.txt | tail -n 1)"
@@ -78,21 +82,29 @@ breaks_run "an empty line" "$bad_line" sed '5s/^/\n/'
 breaks_run "a last line that is cut off" "the line does not end" head -c -1
 breaks_image "a file that is cut off" "the line does not end" head -c -3
 breaks_run "a file without its last line" "$bad_line" sed '$d'
-breaks_run "a file without its last call" "run-1.txt: 2 lines C, the list has 3" head -n -4
+breaks_run "a file without its first call" "run-1.txt: 2 lines C, the list has 3" sed '2,5d'
+breaks_run "a file without its last step" "run-1.txt: 0 lines T, the list has 1" head -n -4
 breaks_run "a call too many" "run-1.txt: 4 lines C, the list has 3" sed '1s/$/\nC - 0\nR 1\nA -\nI same/'
+breaks_run "a table too many" "run-1.txt: 2 lines T, the list has 1" sed '1s/$/\nT - 0\nR 0\nA -\nI same/'
 breaks_run "a zero byte" "the line does not end" sed '2s/$/\x00/'
 breaks_run "line ends of another system" "$bad_line" sed 's/$/\r/'
 
 # ── Lines that are missing, doubled or of no kind ───────────────────────────────────────────────────
 breaks_run "no Z" "there is no image yet" sed '/^Z/d'
-breaks_image "no second Z" "images.txt: 1 lines Z, the list has 2" sed '4,${/^Z/d}'
-breaks_image "no P" "images.txt: 1 lines P, the list has 2" sed '0,/^P/{/^P/d}'
+breaks_image "no second Z" "images.txt: 1 lines Z, the list has 3" sed '4,${/^Z/d}'
+breaks_image "no P" "images.txt: 2 lines P, the list has 3" sed '0,/^P/{/^P/d}'
 breaks_image "no L" "images.txt: 0 lines L, the list has 1" sed '/^L/d'
-for letter in C R A I; do
+for letter in C T R A I; do
     breaks_run "no $letter" "$bad_line" sed "0,/^$letter/{/^$letter/d}"
     breaks_run "$letter twice" "$bad_line" sed "0,/^$letter/s/^$letter.*/&\n&/"
 done
-for letter in C R A I; do
+for letter in R A I; do
+    breaks_run "no $letter of a table" "$bad_line" sed "/^T/,\${/^$letter/d}"
+    breaks_run "$letter of a table twice" "$bad_line" sed "/^T/,\$s/^$letter.*/&\n&/"
+done
+breaks_run "a call for a table" "$bad_line" sed 's/^T/C/'
+breaks_run "a table for a call" "$bad_line" sed '0,/^C/s/^C .*/T - 0/'
+for letter in C T R A I; do
     breaks_run "another letter than $letter" "$bad_line" sed "0,/^$letter/s/^$letter/X/"
     breaks_run "a small letter $letter" "$bad_line" sed "0,/^$letter/s/^$letter/${letter,}/"
 done
@@ -103,7 +115,7 @@ done
 breaks_image "another letter than Z" "$bad_line" sed '4,$s/^Z/X/'
 
 # ── Lines of another form ───────────────────────────────────────────────────────────────────────────
-for letter in C A; do
+for letter in C T A; do
     breaks_run "odd digits in $letter" "$bad_line" sed "0,/^$letter/s/^$letter ./$letter /"
     breaks_run "no digit in $letter" "$bad_line" sed "0,/^$letter/s/^$letter [0-9a-f]*/$letter /"
     breaks_run "a digit g in $letter" "$bad_line" sed "0,/^$letter/s/^$letter ./$letter g/"
@@ -124,19 +136,42 @@ breaks_image "a length that is too large" "$bad_line" sed 's/^L .*/L 65537/'
 breaks_run "a number that is none" "$bad_line" sed '0,/^R/s/^R .*/R 0x/'
 breaks_run "a call without the answer's length" "$bad_line" sed '0,/^C/s/^\(C [^ ]*\).*/\1/'
 breaks_run "an answer longer than its buffer" "$bad_line" sed '0,/^C/s/^\(C [^ ]*\).*/\1 0/'
+breaks_run "a table without the answers' length" "$bad_line" sed 's/^\(T [^ ]*\).*/\1/'
+breaks_run "two answers and a buffer for one" "$bad_line" sed 's/^\(T [^ ]*\).*/\1 2079/'
+breaks_run "a table that is too long for its answers" "$bad_line" sed "s/^T /&$(printf '%048d' 0)/"
+breaks_run "an answer too few" "$bad_line" sed 's/^A 03 03/A 03/'
+breaks_run "an answer too many" "$bad_line" sed 's/^A 03 03/& 03/'
+breaks_run "no answer and one" "$bad_line" sed 's/^A 03 03/A - 03/'
+breaks_run "one answer and none" "$bad_line" sed 's/^A 03 03/A 03 -/'
+breaks_run "two blanks between answers" "$bad_line" sed 's/^A 03 03/A 03  03/'
+breaks_run "a blank behind the answers" "$bad_line" sed 's/^A 03 03/& /'
+breaks_run "odd digits in a table's last answer" "$bad_line" sed 's/^A 03 03/A 03 3/'
+breaks_run "an answer of too many bytes" "$bad_line" sed "s/^A 03 03/A 03$(printf '%02080d' 0) 03/"
+breaks_run "a last answer of too many bytes" "$bad_line" sed "s/^A 03 03/&$(printf '%02080d' 0)/"
 breaks_run "a change that is neither" "$bad_line" sed '0,/^I/s/^I.*/I sane/'
 
 # ── Lines that say something else ───────────────────────────────────────────────────────────────────
 breaks_run "another number" "$differs" sed '0,/^R/s/^R .*/R 13/'
+breaks_run "another number of a table" "$differs" sed '/^T/,$s/^R .*/R 14/'
+breaks_run "a table of odd length" "$differs" sed -e 's/^T ../T /' -e 's/^A 03 03/A 03/'
 breaks_bytes "another answer" "$differs" sed '0,/^A/s/^A ../A 01/'
+breaks_bytes "another first answer of a table" "$differs" sed 's/^A 03 03/A 04 03/'
+breaks_bytes "another last answer of a table" "$differs" sed 's/^A 03 03/A 03 04/'
+breaks_bytes "a table's answers that are not written" "$differs" sed 's/^A 03 03/A -/'
+breaks_bytes "a last byte in a table's first answer" "$differs" sed "s/^A 03 03/A 03$(printf '%02076d' 0)01 03/"
 breaks_bytes "another change" "$differs" sed 's/^I [0-9].*/I same/'
 breaks_bytes "one byte more changed" "$differs" sed 's/^I [0-9].*/& 5000:01/'
+breaks_bytes "a byte that a table leaves" "$differs" sed '/^T/,$s/^I same/I 5000:01/'
+file=images.txt
+readers=("$vectors")
+breaks "another change by a table" "$differs" sed '/^T/,$s/^I [0-9].*/I same/'
 
 # ── Lists ───────────────────────────────────────────────────────────────────────────────────────────
 breaks_list "an empty list" "names no file that begins with" true
-breaks_list "another count" "the list has 4" sed 's/3$/4/'
-breaks_list "a count too few" "not a name with the counts" sed 's/ 3$//'
-breaks_list "a count too many" "not a name with the counts" sed 's/ 3$/ 3 1/'
+breaks_list "another count" "lines C, the list has 4" sed 's/ 3 1$/ 4 1/'
+breaks_list "another count of tables" "lines T, the list has 2" sed 's/ 1$/ 2/'
+breaks_list "a count too few" "not a name with the counts" sed 's/ 1$//'
+breaks_list "a count too many" "not a name with the counts" sed 's/ 1$/ 1 1/'
 breaks_list "a file that is not there" "run-9.txt: cannot be read" sed 's/run-1/run-9/'
 holds "the list names every file of vectors" cmp -s <(sed '/^#/d; s/ .*//' "$here/tests/vectors/calls.txt" | sort) \
     <(cd "$here/tests/vectors" && find . -type f ! -name calls.txt | sed 's|^\./||' | sort)

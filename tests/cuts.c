@@ -1,9 +1,9 @@
 /*
  * Invoices cut in many ways (02 3/12). A trade whose first payment is made is invoiced, always from the same image, in
- * pieces of one fen, in halves, at random, at once, by itself and with other calls between. What lot LOT's outcomes 11
- * have paid is held to the formula at every confirmed sum, and to what the other ways have paid at the same sum; a
- * later trade of the same receipt is counted by itself. Images in which something else is paid are refused and stay as
- * they were. The last line is 'N passed, M failed'.
+ * pieces of one fen, in halves, at random, at once, by itself, with other calls between, in tables of calls (02 5/12),
+ * and by turns in tables and singly. What lot LOT's outcomes 11 have paid is held to the formula at every confirmed
+ * sum, and to what the other ways have paid at the same sum; a later trade of the same receipt is counted by itself.
+ * Images in which something else is paid are refused and stay as they were. The last line is 'N passed, M failed'.
  */
 #include "../include/crz_records.h"
 
@@ -69,16 +69,21 @@ static void count_entry(const struct crz_entry_fields *entry)
     trade.listed++;
 }
 
-/* makes the call, which must return this number, and counts what it lists */
-static void make(uint32_t number, const char *what)
+/* counts what the answer lists */
+static void count_entries(void)
 {
-    uint32_t i, count;
-    need(crz_call(image, sizeof image, call, sizeof call, answer, sizeof answer) == number, what);
-    count = crz_get_answer(answer).count;
+    uint32_t i, count = crz_get_answer(answer).count;
     for (i = 0; i < count; i++) {
         struct crz_entry_fields entry = crz_get_entry(answer, i);
         count_entry(&entry);
     }
+}
+
+/* makes the call, which must return this number */
+static void make(uint32_t number, const char *what)
+{
+    need(crz_call(image, sizeof image, call, sizeof call, answer, sizeof answer) == number, what);
+    count_entries();
 }
 
 static void accept(const char *what)
@@ -300,24 +305,35 @@ static void compare_with_others(void)
     }
 }
 
-/* the pending invoice is confirmed; a part of nothing is listed too */
-static void confirm_pending(uint64_t pending)
+/* the answer confirms an invoice, before which so many parts were listed; a part of nothing is listed too */
+static void expect_part(uint64_t invoice, unsigned long listed)
 {
-    unsigned long listed = trade.listed;
-    struct crz_entry_fields entry;
-    confirm(BUYER, LOT);
-    entry = crz_get_entry(answer, 0);
-    trade.confirmed += pending;
+    struct crz_entry_fields entry = crz_get_entry(answer, 0);
+    trade.confirmed += invoice;
     expect(trade.listed == listed + 1 && crz_get_answer(answer).count == 1 && entry.from == BUYER && entry.to == SELLER,
         "a part is listed once, from the buyer to the seller");
     expect(trade.paid == formula(trade.confirmed), "what is paid is the formula's");
     compare_with_others();
 }
 
+static void confirm_pending(uint64_t pending)
+{
+    unsigned long listed = trade.listed;
+    confirm(BUYER, LOT);
+    expect_part(pending, listed);
+}
+
+/* what is invoiced next; nothing where all is */
+static uint64_t next_invoice(cut *size, unsigned number)
+{
+    uint64_t left = trade.full - trade.confirmed, wanted = left == 0 ? 0 : size(left, number);
+    return wanted < left ? wanted : left;
+}
+
 /* `between` is 0 for no other calls, else where in their order they begin */
 static void cut_once(cut *size, unsigned number, unsigned between)
 {
-    uint64_t left = trade.full - trade.confirmed, wanted = size(left, number), amount = wanted < left ? wanted : left;
+    uint64_t amount = next_invoice(size, number);
     if (between)
         call_between(between + number);
     invoice(SELLER, LOT, amount);
@@ -325,6 +341,63 @@ static void cut_once(cut *size, unsigned number, unsigned between)
         call_before_confirmation(between + number);
     confirm_pending(amount);
 }
+
+/* ── In tables ─────────────────────────────────────────────────────────────────────────────────── */
+
+/* of each invoice: a fen more than is left, itself, a confirmation by the wrong party, and the right one */
+enum { CALLS_EACH = 4, MOST_INVOICES = CRZ_TABLE_COUNT / CALLS_EACH };
+static const uint8_t numbers_each[CALLS_EACH] = {
+    CRZ_NUMBER_OVER_INVOICE, CRZ_NUMBER_ACCEPTED, CRZ_NUMBER_WRONG_PARTY, CRZ_NUMBER_ACCEPTED};
+
+static uint8_t table[CRZ_TABLE_COUNT * CRZ_CALL_LENGTH], answers[CRZ_TABLE_COUNT * CRZ_ANSWER_LENGTH];
+
+static void put_cut(size_t place, uint64_t amount)
+{
+    uint8_t *calls = table + crz_call_offset(CALLS_EACH * place);
+    crz_put_invoice(calls, SELLER, LOT, trade.full - trade.confirmed + 1);
+    crz_put_invoice(calls + crz_call_offset(1), SELLER, LOT, amount);
+    crz_put_confirm(calls + crz_call_offset(2), SELLER, LOT);
+    crz_put_confirm(calls + crz_call_offset(3), BUYER, LOT);
+}
+
+/* the next invoices of this way of cutting, as many as one table has; how many they are */
+static size_t put_cuts(cut *size, unsigned number, uint64_t *amounts)
+{
+    uint64_t confirmed = trade.confirmed;
+    size_t count = 0;
+    while (count < MOST_INVOICES && trade.confirmed < trade.full) {
+        amounts[count] = next_invoice(size, number + (unsigned)count);
+        put_cut(count, amounts[count]);
+        trade.confirmed += amounts[count++];
+    }
+    trade.confirmed = confirmed;
+    return count;
+}
+
+/* call `place` of the table has its number, and its answer is counted like that of a single call */
+static void read_answer(size_t place, uint64_t amount)
+{
+    unsigned long listed = trade.listed;
+    memcpy(answer, answers + crz_answer_offset(place), sizeof answer);
+    need(answer[CRZ_ANSWER_NUMBER] == numbers_each[place % CALLS_EACH], "a number in a table");
+    count_entries();
+    if (place % CALLS_EACH == CALLS_EACH - 1)
+        expect_part(amount, listed);
+}
+
+/* how many invoices the table has cut */
+static unsigned cut_in_table(cut *size, unsigned number)
+{
+    uint64_t amounts[MOST_INVOICES];
+    size_t count = put_cuts(size, number, amounts), made = CALLS_EACH * count, i;
+    memset(answers, 0xa5, sizeof answers);
+    need(crz_table(image, sizeof image, table, crz_call_offset(made), answers, sizeof answers) == 0, "a table");
+    for (i = 0; i < made; i++)
+        read_answer(i, amounts[i / CALLS_EACH]);
+    return (unsigned)count;
+}
+
+/* ── All invoices of a trade ───────────────────────────────────────────────────────────────────── */
 
 /* the buyer sells the receipt on: none of that is the first trade's */
 static void sell_again(const struct terms *terms)
@@ -351,7 +424,20 @@ static void read_trade(void)
     trade.paid_at_start = lot.paid;
 }
 
-static void cut_all(cut *size, const struct terms *terms, unsigned between)
+/* by itself, with other calls between, in tables, by turns singly and in tables */
+enum manner { ALONE, WITH_OTHERS, IN_TABLES, BY_TURNS, MANNERS };
+
+/* from this number on, one invoice or as many as a table has; the number of the next one */
+static unsigned cut_next(cut *size, unsigned number, enum manner manner, unsigned between)
+{
+    if (manner == IN_TABLES || (manner == BY_TURNS && number % 2 == 1))
+        return number + cut_in_table(size, number);
+    cut_once(size, number, manner == WITH_OTHERS ? between : 0);
+    return number + 1;
+}
+
+/* `between` is where in their order other calls begin */
+static void cut_all(cut *size, const struct terms *terms, enum manner manner, unsigned between)
 {
     uint64_t pending = crz_get_receipt(start, LOT).pending;
     unsigned number = 0;
@@ -361,26 +447,26 @@ static void cut_all(cut *size, const struct terms *terms, unsigned between)
     if (pending != 0)
         confirm_pending(pending);
     while (trade.confirmed < trade.full)
-        cut_once(size, number++, between);
+        number = cut_next(size, number, manner, between);
     expect(trade.paid == trade.rest - trade.paid_at_start, "the whole rest is paid");
     expect(crz_get_receipt(image, LOT).state == CRZ_STATE_IDLE, "the lot has ended");
     sell_again(terms);
 }
 
-/* every way from one start, each by itself and with other calls between */
+/* every way from one start, each in every manner */
 static void try_cuts(const struct terms *terms, enum beginning beginning)
 {
     unsigned i;
     sum_count = 0;
     common_sums = 0;
     read_trade();
-    for (i = 0; i < 2 * CUTS; i++)
-        if (trade.full <= cuts[i / 2].most_full)
-            cut_all(cuts[i / 2].size, terms, i % 2 == 0 ? 0 : i / 2 + 1);
+    for (i = 0; i < MANNERS * CUTS; i++)
+        if (trade.full <= cuts[i / MANNERS].most_full)
+            cut_all(cuts[i / MANNERS].size, terms, (enum manner)(i % MANNERS), i / MANNERS + 1);
     if (beginning == ALL_BUT_A_FEN)
         expect(common_sums == 0, "a last fen cannot be cut");
     else /* an invoice that is pending at the start brings all ways to one sum, which is not enough */
-        expect(common_sums > 2 * CUTS, "ways of cutting meet at common sums");
+        expect(common_sums > MANNERS * CUTS, "ways of cutting meet at common sums");
 }
 
 /* 33, 33 and 34 pay 6, 7 and 7 */

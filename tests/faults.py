@@ -13,12 +13,13 @@ import sys
 
 archive, folder = sys.argv[1:]
 compiler = ["gcc", "-std=c99", "-O0", "-Iinclude"]
-as_library = ["-Dcrz_call=plain_call", "-Dcrz_fresh=plain_fresh"]
+as_library = ["-Dcrz_call=plain_call", "-Dcrz_fresh=plain_fresh", "-Dcrz_table=plain_table"]
 programs = {
     "longrun": (sorted(glob.glob("tests/longrun*.c")) + ["tests/lent.c"], []),
     "buffers": (["tests/buffers.c", "tests/lent.c"], as_library),
     "cuts": (["tests/cuts.c"], as_library),
     "damage": (["tests/damage.c"], []),
+    "tables": (["tests/tables.c", "tests/lent.c"], as_library),
 }
 
 
@@ -54,11 +55,13 @@ def run(program, objects, ledger):
 
 def seen(program, status, said):
     """By a difference in the program's own words, by one of its tests, or by a wall."""
-    if program == "buffers":
-        return "seen at a wall" if status == -signal.SIGSEGV else None
-    if program in ("cuts", "damage"):
+    if program in ("buffers", "tables") and status == -signal.SIGSEGV:
+        return "seen by %s, at a wall" % program
+    if program in ("cuts", "damage", "tables"):
         test = re.search(r"^failed: (.*)", said, re.M)
         return "seen by %s: %s" % (program, test.group(1)) if test and status == 1 else None
+    if program == "buffers":
+        return None
     call = re.search(r"^seed \w+, call (\d+): library", said, re.M)
     return "seen at call " + call.group(1) if call and status == 1 and said.endswith("0 passed, 1 failed\n") else None
 

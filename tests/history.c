@@ -1,9 +1,11 @@
 /*
- * The history table beside the runs of the vectors: fed with call records and answers alone, and after every call held
- * against the image. Usage: history LIST. The last line is 'N passed, M failed'; a call with its four sentences counts
- * once.
+ * The history table beside the runs of the vectors: fed with call records and answers alone, and after every call, or
+ * table of calls, held against the image. A table's calls are fed one by one, each with its own answer, which tells
+ * whether it was accepted; one that was not made feeds nothing. Usage: history LIST. The last line is 'N passed, M
+ * failed'; a call or a table with its four sentences counts once.
  */
 #include "../host/history.h"
+#include "../include/crz_records.h"
 #include "vector_file.h"
 
 #include <stdio.h>
@@ -18,8 +20,27 @@ static int start(void)
     return crz_fresh(image, sizeof image) == CRZ_NUMBER_ACCEPTED;
 }
 
-/* whether the call is answered as the vectors say and all four sentences hold after it */
-static int holds(const struct vector_step *step)
+/* the calls of a table, up to the first finding */
+static struct finding feed_table(struct history *into, const uint8_t *calls, size_t count, const uint8_t *answers)
+{
+    struct finding finding = {SENTENCE_NONE, 0};
+    size_t i;
+    for (i = 0; i < count && finding.sentence == SENTENCE_NONE; i++)
+        if (answers[crz_answer_offset(i) + CRZ_ANSWER_NUMBER] == CRZ_NUMBER_ACCEPTED)
+            finding = history_feed(into, calls + crz_call_offset(i), answers + crz_answer_offset(i));
+    return finding;
+}
+
+/* whether all four sentences hold after what was made */
+static int holds(struct finding finding)
+{
+    if (finding.sentence == SENTENCE_NONE)
+        finding = history_hold(&history, image);
+    return finding.sentence == SENTENCE_NONE;
+}
+
+/* whether the call is answered as the vectors say and leaves what the history says */
+static int call_holds(const struct vector_step *step)
 {
     struct finding finding = {SENTENCE_NONE, 0};
     uint32_t number;
@@ -27,9 +48,19 @@ static int holds(const struct vector_step *step)
     number = crz_call(image, sizeof image, step->call, step->call_len, answer, step->answer_len);
     if (number == CRZ_NUMBER_ACCEPTED)
         finding = history_feed(&history, step->call, answer);
-    if (finding.sentence == SENTENCE_NONE)
-        finding = history_hold(&history, image);
-    return number == step->number && finding.sentence == SENTENCE_NONE;
+    return number == step->number && holds(finding);
+}
+
+/* the same of a table of calls */
+static int table_holds(const struct vector_step *step)
+{
+    struct finding finding = {SENTENCE_NONE, 0};
+    uint32_t number;
+    memset(answer, VECTOR_FILL, step->answer_len);
+    number = crz_table(image, sizeof image, step->call, step->call_len, answer, step->answer_len);
+    if (number == CRZ_NUMBER_ACCEPTED)
+        finding = feed_table(&history, step->call, step->call_len / CRZ_CALL_LENGTH, answer);
+    return number == step->number && holds(finding);
 }
 
 /* the table knows an image only from its fresh start on */
@@ -37,7 +68,8 @@ static int make(const struct vector_step *step)
 {
     switch (step->kind) {
     case STEP_FRESH: return start();
-    case STEP_CALL: return holds(step);
+    case STEP_CALL: return call_holds(step);
+    case STEP_TABLE: return table_holds(step);
     default: return 0;
     }
 }
@@ -63,6 +95,30 @@ static void count_wrong(struct tally *tally)
     }
 }
 
+/* whether a history that was fed with so many calls of a table holds */
+static void count_fed(struct tally *tally, const uint8_t *calls, size_t count, enum sentence wanted)
+{
+    static struct history fed;
+    history_start(&fed);
+    feed_table(&fed, calls, count, answer);
+    ++*(history_hold(&fed, image).sentence == wanted ? &tally->passed : &tally->failed);
+}
+
+/* the second call is refused and tells nothing */
+static void count_tables(struct tally *tally)
+{
+    uint8_t calls[3 * CRZ_CALL_LENGTH];
+    start();
+    crz_put_pay_in(calls, 3, 7);
+    crz_put_take_out(calls + crz_call_offset(1), 4, 1);
+    crz_put_take_out(calls + crz_call_offset(2), 3, 2);
+    crz_table(image, sizeof image, calls, sizeof calls, answer, crz_answer_offset(3));
+    count_fed(tally, calls, 3, SENTENCE_NONE);
+    count_fed(tally, calls, 2, SENTENCE_BOOKS);
+    crz_put_pay_in(calls + crz_call_offset(2), 3, 2);
+    count_fed(tally, calls, 3, SENTENCE_BOOKS);
+}
+
 int main(int argc, char **argv)
 {
     struct tally tally = {0, 0};
@@ -72,5 +128,6 @@ int main(int argc, char **argv)
     }
     walk_vectors(argv[1], "run-", make, &tally);
     count_wrong(&tally);
+    count_tables(&tally);
     return show_tally(&tally);
 }

@@ -69,6 +69,18 @@ void lend_filled(struct lent *lent, enum lent_place place, uint8_t fill, size_t 
     memset(lent->bytes, fill, len);
 }
 
+uint8_t *lend_nothing(void)
+{
+    static uint8_t *wall;
+    if (wall == NULL)
+        wall = mmap(NULL, ROOM, PROT_NONE, MAP_PRIVATE | MAP_ANONYMOUS, -1, 0);
+    if (wall == MAP_FAILED) {
+        perror("no wall");
+        exit(2);
+    }
+    return wall;
+}
+
 static int all_painted(const uint8_t *bytes, size_t count)
 {
     while (count-- > 0)

@@ -32,4 +32,7 @@ void lend_filled(struct lent *lent, enum lent_place place, uint8_t fill, size_t 
 /* Whether the bytes around the buffer are still as painted. */
 int lent_kept(const struct lent *lent);
 
+/* A buffer inside a wall, for calls that must not read or write it. */
+uint8_t *lend_nothing(void);
+
 #endif

@@ -2,28 +2,17 @@
  * Long runs of calls: the library against the plain C ledger of bench/plain.c. Each side has its own image and answer
  * buffer; number, whole image and whole answer are compared after every call. Most calls are sensible ones that carry
  * lots through all states, the others are wild: random bytes, fields out of range, wrong lengths, short answers, and
- * copies of the image with a field out of place or with what a lot holds elsewhere. The library's buffers stand between
- * painted bytes or at a wall.
+ * copies of the image with a field out of place or with what a lot holds elsewhere. A part of the calls goes in tables,
+ * after each of which number, image and all answers are compared; some tables have lengths that are refused, some meet
+ * those copies. The library's buffers stand between painted bytes or at a wall.
  *
- * longrun         all runs, then the tables of what was reached. The last line is 'N passed, M failed': N counts the
- *                 calls that agree and what was reached, M the differences and what was never reached
+ * longrun         all runs, then what was reached. The last line is 'N passed, M failed': N counts the calls and tables
+ *                 that agree and what was reached, M the differences and what was never reached
  * longrun first   ends at the first difference
  */
 #include "longrun.h"
-#include "lent.h"
 
 #include <stdio.h>
-#include <stdlib.h>
-
-uint32_t plain_fresh(uint8_t *image, size_t image_len);
-uint32_t plain_call(
-    uint8_t *image, size_t image_len, const uint8_t *call, size_t call_len, uint8_t *answer, size_t answer_len);
-
-/* the buffers of one side; bytes past the lengths lent are compared too */
-struct side {
-    uint8_t image[CRZ_IMAGE_LENGTH + SPARE];
-    uint8_t answer[CRZ_ANSWER_LENGTH + SPARE];
-};
 
 static const struct plan plans[] = {
     {UINT64_C(0x9e3779b97f4a7c15), 16000, 24, 8, 40, 1, 0, 0},
@@ -35,99 +24,8 @@ static const struct plan plans[] = {
 };
 
 struct plan plan;
-static struct side library, plain;
-static unsigned long calls, differences;
-static int ends_at_first;
 
-/* ── Compare ───────────────────────────────────────────────────────────────────────────────────── */
-
-static size_t agree_up_to(const uint8_t *one, const uint8_t *other, size_t length)
-{
-    size_t i = 0;
-    while (i < length && one[i] == other[i])
-        i++;
-    return i;
-}
-
-static void show_difference(const struct request *q, uint32_t of_library, uint32_t of_plain)
-{
-    size_t i;
-    if (++differences > 5)
-        return;
-    printf("seed %llx, call %lu: library %u, plain %u; call of %lu bytes:", (unsigned long long)plan.seed, calls,
-        of_library, of_plain, (unsigned long)q->call_len);
-    for (i = 0; i < q->call_len; i++)
-        printf(" %02x", q->call[i]);
-    printf("; images agree up to %lu, answers up to %lu\n",
-        (unsigned long)agree_up_to(library.image, plain.image, sizeof library.image),
-        (unsigned long)agree_up_to(library.answer, plain.answer, sizeof library.answer));
-    if (ends_at_first) {
-        printf("0 passed, 1 failed\n");
-        exit(1);
-    }
-}
-
-/* an empty buffer has an address of its own or none */
-static uint8_t *address(const struct lent *lent)
-{
-    return lent->len == 0 && percent(50) ? NULL : lent->bytes;
-}
-
-static enum lent_place some_place(void)
-{
-    return (enum lent_place)below(LENT_PLACES);
-}
-
-/* the library's call, on buffers of its own; *kept becomes 0 where a byte around them or of the record has changed */
-static uint32_t call_library(const struct request *q, int *kept)
-{
-    static struct lent image, call, answer;
-    uint8_t *image_at, *call_at, *answer_at;
-    uint32_t number;
-    lend_bytes(&image, some_place(), library.image, q->image_len);
-    lend_bytes(&call, some_place(), q->call, q->call_len);
-    lend_bytes(&answer, some_place(), library.answer, q->answer_len);
-    image_at = address(&image);
-    call_at = address(&call);
-    answer_at = address(&answer);
-    number = crz_call(image_at, image.len, call_at, call.len, answer_at, answer.len);
-    *kept = lent_kept(&image) && lent_kept(&call) && lent_kept(&answer) && memcmp(call.bytes, q->call, call.len) == 0;
-    memcpy(library.image, image.bytes, image.len);
-    memcpy(library.answer, answer.bytes, answer.len);
-    return number;
-}
-
-/* agreement on a changed image after a refusal, or on bytes past the answer, would be wrong on both sides */
-static int same_on_both(const struct side *before, uint32_t number)
-{
-    if (number != CRZ_NUMBER_ACCEPTED && memcmp(library.image, before->image, sizeof before->image) != 0)
-        return 0;
-    return memcmp(library.image, plain.image, sizeof library.image) == 0
-           && memcmp(library.answer, plain.answer, sizeof library.answer) == 0
-           && memcmp(library.answer + CRZ_ANSWER_LENGTH, before->answer + CRZ_ANSWER_LENGTH, SPARE) == 0;
-}
-
-/* makes the call on both sides */
-static struct made compare(const struct request *q)
-{
-    static struct side before;
-    struct made made = {q, 0, before.image, library.image, library.answer, NULL};
-    uint8_t fill = (uint8_t)random_word();
-    uint32_t of_plain;
-    int kept;
-    memset(library.answer, fill, sizeof library.answer);
-    memset(plain.answer, fill, sizeof plain.answer);
-    before = library;
-    made.number = call_library(q, &kept);
-    of_plain = plain_call(plain.image, q->image_len, q->call, q->call_len, plain.answer, q->answer_len);
-    calls++;
-    if (made.number != of_plain || !kept || !same_on_both(&before, made.number)) {
-        show_difference(q, made.number, of_plain);
-        plain = library;
-    }
-    count_call(&made);
-    return made;
-}
+/* ── Made-up images ────────────────────────────────────────────────────────────────────────────── */
 
 /* a call on an image that was changed: often a close or a step of the receipt concerned, else any call that the image
  * before had sense for */
@@ -166,6 +64,24 @@ static void judge_made_up(const struct making *making)
     made = compare(&q);
     made.sound = saved_library.image;
     making->count(&made);
+    library = saved_library;
+    plain = saved_plain;
+}
+
+/* the same with a table, whose calls are drawn for the image before; 14 does not ask for the image */
+static void judge_by_table(const struct making *making)
+{
+    static struct side saved_library, saved_plain;
+    struct table t;
+    saved_library = library;
+    saved_plain = plain;
+    making->make(library.image);
+    memcpy(plain.image, library.image, sizeof plain.image);
+    if (percent(20))
+        draw_bad_table(&t, saved_library.image);
+    else
+        draw_table(&t, saved_library.image);
+    compare_table(&t);
     library = saved_library;
     plain = saved_plain;
 }
@@ -268,6 +184,22 @@ static void start(void)
         fill_book();
 }
 
+static void make_table(void)
+{
+    static const struct making *const makings[] = {&filled, &stray, &damaged, &misplaced};
+    struct table t;
+    uint64_t draw = below(100);
+    if (draw < 15) {
+        judge_by_table(makings[below(sizeof makings / sizeof makings[0])]);
+        return;
+    }
+    if (draw < 30)
+        draw_bad_table(&t, library.image);
+    else
+        draw_table(&t, library.image);
+    compare_table(&t);
+}
+
 static void make_any(void)
 {
     struct request q;
@@ -280,9 +212,11 @@ static void make_any(void)
         judge_made_up(&damaged);
     else if (draw < 150)
         judge_made_up(&misplaced);
-    if (draw < 150)
+    else if (draw < 180)
+        make_table();
+    if (draw < 180)
         return;
-    if (draw < 270)
+    if (draw < 300)
         wild_call(&q, library.image);
     else
         sensible_call(&q, library.image);
@@ -295,8 +229,8 @@ static void run(void)
     start();
     for (i = 0; i < plan.calls; i++)
         make_any();
-    printf("seed %016llx: %lu calls so far, day %u, %lu differences\n", (unsigned long long)plan.seed, calls,
-        crz_get_day(library.image), differences);
+    printf("seed %016llx: %lu calls and %lu tables so far, day %u, %lu differences\n", (unsigned long long)plan.seed,
+        calls, tables, crz_get_day(library.image), differences);
 }
 
 int main(int argc, char **argv)
@@ -309,8 +243,8 @@ int main(int argc, char **argv)
         run();
     }
     show_counts(&reached, &unreached);
-    printf(
-        "%lu calls compared, %lu differences; %lu counts reached, %lu not\n", calls, differences, reached, unreached);
-    printf("%lu passed, %lu failed\n", calls - differences + reached, differences + unreached);
+    printf("%lu calls and %lu tables compared, %lu differences; %lu counts reached, %lu not\n", calls, tables,
+        differences, reached, unreached);
+    printf("%lu passed, %lu failed\n", calls + tables - differences + reached, differences + unreached);
     return differences + unreached != 0;
 }

@@ -1,6 +1,6 @@
 /*
- * What the parts of the long run share: random numbers, the plan of a run, calls and images made at random, and the
- * counts of what was reached.
+ * What the parts of the long run share: random numbers, the plan of a run, calls, tables and images made at random, one
+ * call or table on both sides, and the counts of what was reached.
  */
 #ifndef LONGRUN_H
 #define LONGRUN_H
@@ -54,6 +54,21 @@ uint64_t some_account(void);
 /* a value from the edges of all ranges */
 uint64_t edge_value(void);
 
+/* ── Tables of calls (longrun_tables.c) ────────────────────────────────────────────────────────── */
+
+enum { MOST_CALLS = CRZ_TABLE_COUNT + 4, ANSWERS_MOST = (MOST_CALLS + 2) * CRZ_ANSWER_LENGTH };
+
+struct table {
+    uint8_t calls[(MOST_CALLS + 1) * CRZ_CALL_LENGTH];
+    size_t image_len, calls_len, answers_len;
+};
+
+/* a table that is taken; each of its calls is drawn for the image that those before it leave */
+void draw_table(struct table *t, const uint8_t *image);
+
+/* a table that is not: too many calls, a part of a call, answers that are too short, or two of these */
+void draw_bad_table(struct table *t, const uint8_t *image);
+
 /* ── Images (longrun_images.c) ─────────────────────────────────────────────────────────────────── */
 
 /* Each changes a valid image and returns the receipt that it concerns, 0 for none. */
@@ -75,7 +90,25 @@ uint64_t misplace_held(uint8_t *image);
 enum held_to { TO_SELLER, TO_ACCOUNT_BEFORE, TO_FREE, HELD_PLACES };
 void move_held(uint8_t *image, uint32_t lot, enum held_to to);
 
-/* ── Counts (longrun_counts.c) ─────────────────────────────────────────────────────────────────── */
+/* ── Both sides (longrun_sides.c) ──────────────────────────────────────────────────────────────── */
+
+/* the buffers of one side; bytes past the lengths lent are compared too */
+struct side {
+    uint8_t image[CRZ_IMAGE_LENGTH + SPARE];
+    uint8_t answer[CRZ_ANSWER_LENGTH + SPARE];
+};
+
+extern struct side library, plain;
+
+/* calls and tables made on both sides, and how many of them went differently */
+extern unsigned long calls, tables, differences;
+extern int ends_at_first;
+
+uint32_t plain_fresh(uint8_t *image, size_t image_len);
+uint32_t plain_call(
+    uint8_t *image, size_t image_len, const uint8_t *call, size_t call_len, uint8_t *answer, size_t answer_len);
+uint32_t plain_table(
+    uint8_t *image, size_t image_len, const uint8_t *calls, size_t calls_len, uint8_t *answers, size_t answers_len);
 
 /* a call, what it returned, and images and answer around it; of a made-up image, also the one that it was made from */
 struct made {
@@ -84,7 +117,22 @@ struct made {
     const uint8_t *before, *after, *answer, *sound;
 };
 
+struct made compare(const struct request *q);
+void compare_table(const struct table *t);
+
+/* ── Counts (longrun_counts.c) ─────────────────────────────────────────────────────────────────── */
+
 void count_call(const struct made *made);
+
+/* a table, what it returned, its answers, and whether the image before it was valid */
+struct made_table {
+    const struct table *table;
+    uint32_t number;
+    const uint8_t *answers;
+    int valid;
+};
+
+void count_table(const struct made_table *made);
 
 /* what was said of the four kinds of images */
 void count_damaged(const struct made *made);

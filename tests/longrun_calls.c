@@ -74,7 +74,7 @@ static uint64_t near_price(unsigned contract)
 {
     switch (contract) {
     case CHEAP_CONTRACT: return percent(40) ? CRZ_PRICE_LEAST : 5 * between(1, 10);
-    case DEAR_CONTRACT: return percent(50) ? CRZ_PRICE_MOST : CRZ_PRICE_MOST - 5 * below(10);
+    case DEAR_CONTRACT: return percent(60) ? CRZ_PRICE_MOST : CRZ_PRICE_MOST - 5 * below(10);
     default: return 14000 + 500 * (uint64_t)contract + 5 * below(20);
     }
 }
@@ -183,7 +183,7 @@ static void put_premium_and_weight(struct request *q)
 {
     int32_t premium = some_premium();
     uint64_t weight = some_weight();
-    int dearest = percent(10);
+    int dearest = percent(20);
     crz_put_i32(q->call + CRZ_CALL_BASIS, dearest ? CRZ_PREMIUM_MOST : premium);
     crz_put_bytes(q->call + CRZ_CALL_WEIGHT, 4, dearest ? CRZ_WEIGHT_MOST : weight);
 }

@@ -4,7 +4,10 @@
  * total at its limit, a premium at the ends of its range, every outcome of lots with a premium of either sign and with
  * none, a tonne that costs nothing or one yuan; parts of 0 fen, parts as large as the invoice's own share and one fen
  * larger, and images in which a fen too much or too little of a rest is paid; images in which what a lot holds, in each
- * state that holds something and of lot 128, is frozen from its seller or from the account before, or is free.
+ * state that holds something and of lot 128, is frozen from its seller or from the account before, or is free. In
+ * tables of calls every number but 1, every kind and every outcome; tables of no call up to one too many, each reason
+ * to refuse one, answers of just enough bytes, of fewer and of more, refused calls before accepted ones, closes with
+ * calls behind them.
  */
 #include "longrun.h"
 
@@ -98,6 +101,34 @@ static unsigned long misplaced[HELD_PLACES][VERDICTS][HOLDERS];
 /* quotes that struck two lots or more; with two at one price, at different prices, both; quotes that struck all lots */
 enum { SEVERAL, AT_ONE_PRICE, AT_DIFFERENT_PRICES, AT_BOTH, EVERY_LOT, QUOTES };
 static unsigned long quotes[QUOTES];
+
+/* tables by how many whole calls they have, none, 1, 2, up to 30, 31, 32, 33, more: those made and those of 14 */
+enum { UP_TO_TWO = 2, BETWEEN_ENDS, ONE_BELOW_MOST, JUST_THE_MOST, ONE_TOO_MANY, FAR_TOO_MANY, SIZES };
+static unsigned long table_sizes[VERDICTS][SIZES];
+
+/* what tables were 14 for, by itself, and several of these at once */
+enum { TOO_MANY, PART_OF_CALL, SHORT_ANSWERS, SEVERAL_REASONS, REASONS };
+static unsigned long reasons[REASONS];
+
+/* answers of tables that nothing else is wrong with: short by an answer, by eight bytes for each, by a byte, by another
+ * number; of just enough bytes; of more, by an answer, by another number */
+enum { ANSWER_SHORT, EIGHT_EACH_SHORT, BYTE_SHORT, ELSE_SHORT, ENOUGH, ANSWER_MORE, ELSE_MORE, ANSWERS };
+static unsigned long table_answers[VERDICTS][ANSWERS];
+
+/* tables on a valid image and on one that is not: made, without calls and with calls, and of 14 */
+enum { WITHOUT_CALLS, WITH_CALLS, NOT_MADE, TABLE_KINDS };
+static unsigned long table_images[VERDICTS][TABLE_KINDS];
+
+/* their answers: numbers, accepted kinds, outcomes */
+static unsigned long table_numbers[NUMBERS], table_kinds[KINDS], table_outcomes[OUTCOMES];
+
+/* two calls side by side, each refused or accepted */
+static unsigned long neighbours[2][2];
+
+/* calls behind an accepted close of a morning, of a day, and both in one table; quotes that struck several lots; tables
+ * of two calls or more that were all accepted, all refused */
+enum { BEHIND_MORNING, BEHIND_DAY, BEHIND_BOTH, STRUCK_SEVERAL, ALL_ACCEPTED, ALL_REFUSED, WITHIN };
+static unsigned long within[WITHIN];
 
 /* ── Counting ──────────────────────────────────────────────────────────────────────────────────── */
 
@@ -299,11 +330,13 @@ static void count_put_in(const struct made *made, uint32_t lot)
         put_in[bad][what]++;
 }
 
-/* what is paid went up by so much, modulo 2^64; frozen money and total went down by the same: then the sums fit */
+/* what is paid went up by so much, modulo 2^64; frozen money and total went down by the same, or up, but not past the
+ * limit: then the sums fit */
 static int is_booked(const struct made *made, uint32_t buyer, uint64_t more)
 {
     uint64_t frozen = crz_get_account(made->before, buyer).frozen, total = crz_get_total(made->before);
-    return frozen + more == crz_get_account(made->sound, buyer).frozen && total + more == crz_get_total(made->sound);
+    return frozen + more == crz_get_account(made->sound, buyer).frozen && total + more == crz_get_total(made->sound)
+           && total <= CRZ_TOTAL_MOST;
 }
 
 /* something is left to confirm, and no more is pending than that */
@@ -382,7 +415,114 @@ void count_misplaced(const struct made *made)
     }
 }
 
-/* ── Tables ────────────────────────────────────────────────────────────────────────────────────── */
+/* ── Counting tables of calls ──────────────────────────────────────────────────────────────────── */
+
+static size_t size_place(size_t count)
+{
+    if (count <= UP_TO_TWO)
+        return count;
+    if (count < CRZ_TABLE_COUNT - 1)
+        return BETWEEN_ENDS;
+    return count > CRZ_TABLE_COUNT + 1 ? FAR_TOO_MANY : ONE_BELOW_MOST + count - (CRZ_TABLE_COUNT - 1);
+}
+
+static size_t answers_place(size_t count, size_t length)
+{
+    size_t enough = crz_answer_offset(count), less = enough - length;
+    if (length == enough)
+        return ENOUGH;
+    if (length > enough)
+        return length == enough + CRZ_ANSWER_LENGTH ? ANSWER_MORE : ELSE_MORE;
+    if (less == CRZ_ANSWER_LENGTH)
+        return ANSWER_SHORT;
+    if (less == CRZ_ENTRY_LENGTH * count)
+        return EIGHT_EACH_SHORT;
+    return less == 1 ? BYTE_SHORT : ELSE_SHORT;
+}
+
+static void count_lengths(const struct table *t, int refused)
+{
+    size_t count = t->calls_len / CRZ_CALL_LENGTH;
+    int many = count > CRZ_TABLE_COUNT, part = t->calls_len % CRZ_CALL_LENGTH != 0;
+    int is_short = t->answers_len < crz_answer_offset(count);
+    table_sizes[refused][size_place(count)]++;
+    reasons[TOO_MANY] += many && !part && !is_short;
+    reasons[PART_OF_CALL] += part && !many && !is_short;
+    reasons[SHORT_ANSWERS] += is_short && !many && !part;
+    reasons[SEVERAL_REASONS] += many + part + is_short > 1;
+    if (!many && !part)
+        table_answers[refused][answers_place(count, t->answers_len)]++;
+}
+
+static void count_table_outcomes(const uint8_t *answer)
+{
+    uint32_t i, entries = crz_get_answer(answer).count;
+    for (i = 0; i < entries && i < CRZ_ENTRY_COUNT; i++)
+        table_outcomes[crz_get_entry(answer, i).outcome % OUTCOMES]++;
+}
+
+static void count_answer(uint8_t kind, const uint8_t *answer)
+{
+    uint8_t number = answer[CRZ_ANSWER_NUMBER];
+    if (number < NUMBERS)
+        table_numbers[number]++;
+    if (number != CRZ_NUMBER_ACCEPTED || kind >= KINDS)
+        return;
+    table_kinds[kind]++;
+    count_table_outcomes(answer);
+    within[STRUCK_SEVERAL] += kind == CRZ_KIND_QUOTE && crz_get_answer(answer).count > 1;
+}
+
+/* what the calls of a table did so far */
+struct past_calls {
+    int accepted, refused, morning, day;
+};
+
+static void count_behind(struct past_calls *past, uint8_t kind, int accepted, int was_accepted)
+{
+    if (past->accepted + past->refused > 0)
+        neighbours[was_accepted][accepted]++;
+    within[BEHIND_MORNING] += past->morning != 0;
+    within[BEHIND_DAY] += past->day != 0;
+    within[BEHIND_BOTH] += past->morning != 0 && past->day != 0;
+    past->accepted += accepted;
+    past->refused += !accepted;
+    past->morning += accepted && kind == CRZ_KIND_MORNING_CLOSE;
+    past->day += accepted && kind == CRZ_KIND_DAY_CLOSE;
+}
+
+/* a table that was made */
+static void count_calls(const struct made_table *made, size_t count)
+{
+    struct past_calls past = {0, 0, 0, 0};
+    int was_accepted = 0;
+    size_t i;
+    for (i = 0; i < count; i++) {
+        const uint8_t *answer = made->answers + crz_answer_offset(i);
+        uint8_t kind = made->table->calls[crz_call_offset(i) + CRZ_CALL_KIND];
+        int accepted = answer[CRZ_ANSWER_NUMBER] == CRZ_NUMBER_ACCEPTED;
+        count_answer(kind, answer);
+        count_behind(&past, kind, accepted, was_accepted);
+        was_accepted = accepted;
+    }
+    within[ALL_ACCEPTED] += past.accepted > 1 && past.refused == 0;
+    within[ALL_REFUSED] += past.refused > 1 && past.accepted == 0;
+}
+
+void count_table(const struct made_table *made)
+{
+    size_t count = made->table->calls_len / CRZ_CALL_LENGTH;
+    unsigned long *images = table_images[!made->valid];
+    int refused = made->number != CRZ_NUMBER_ACCEPTED;
+    count_lengths(made->table, refused);
+    images[NOT_MADE] += refused != 0;
+    images[WITHOUT_CALLS] += !refused && count == 0;
+    images[WITH_CALLS] += !refused && count != 0;
+    if (!refused)
+        count_calls(made, count);
+}
+
+/* ── What was reached ──────────────────────────────────────────────────────────────────────────── */
 
 static unsigned long met, unmet;
 
@@ -501,6 +641,39 @@ static void show_misplaced(void)
     }
 }
 
+/* a call is never short of an answer inside a table: 1 cannot occur */
+static void show_table_calls(void)
+{
+    show_heads("numbers in a table", 0, NUMBERS);
+    show_row("answers", table_numbers, "+-++++++++++++");
+    show_heads("accepted in a table", 1, KINDS);
+    show_row("calls by kind", table_kinds + 1, "+++++++++++++++");
+    show_row("entries by outcome", table_outcomes + 1, "+++++++++++++++");
+    printf("%-22s %6s %6s\n", "next in a table", "refus.", "accep.");
+    show_row("behind a refused call", neighbours[0], "++");
+    show_row("behind an accepted", neighbours[1], "++");
+    printf("%-22s %6s %6s %6s %6s %6s %6s\n", "in a table", "b.morn", "b.day", "b.both", "quote+", "all ac", "all re");
+    show_row("calls, quotes, tables", within, "++++++");
+}
+
+static void show_tables(void)
+{
+    printf(
+        "%-22s %6s %6s %6s %6s %6s %6s %6s %6s\n", "calls of a table", "0", "1", "2", "3-30", "31", "32", "33", "more");
+    show_row("made", table_sizes[0], "++++++--");
+    show_row("14", table_sizes[1], "++++++++");
+    printf("%-22s %6s %6s %6s %6s\n", "reasons for 14", "many", "part", "short", "more");
+    show_row("by itself, several", reasons, "++++");
+    printf("%-22s %6s %6s %6s %6s %6s %6s %6s\n", "bytes for answers", "-1,040", "-8n", "-1", "less", "enough",
+        "+1,040", "more");
+    show_row("made", table_answers[0], "----+++");
+    show_row("14", table_answers[1], "++++---");
+    printf("%-22s %6s %6s %6s\n", "tables", "empty", "calls", "14");
+    show_row("on a valid image", table_images[0], "+++");
+    show_row("on one that is not", table_images[1], "+++");
+    show_table_calls();
+}
+
 void show_counts(unsigned long *reached, unsigned long *unreached)
 {
     show_kinds();
@@ -510,6 +683,7 @@ void show_counts(unsigned long *reached, unsigned long *unreached)
     show_premiums();
     show_parts();
     show_misplaced();
+    show_tables();
     printf("%-22s %6s %6s\n", "made-up images", "valid", "not");
     show_row("a field out of place", damaged, "++");
     show_row("valid, not reached", stray, "+-");

@@ -1,6 +1,6 @@
 /*
  * crz_records.h and the constants of crz.h against the library: each call record by its bytes, every range at its ends
- * and one beyond them, payments, and what is read back from answers and images. C and C++.
+ * and one beyond them, payments, tables of calls, and what is read back from answers and images. C and C++.
  * The last line is 'N passed, M failed'.
  */
 #include "../include/crz_records.h"
@@ -455,6 +455,50 @@ static void premiums(void)
     images();
 }
 
+/* one call more than a table has, and room for its answer */
+enum { CALLS = CRZ_TABLE_COUNT + 1 };
+static uint8_t calls[CALLS * CRZ_CALL_LENGTH], answers[CALLS * CRZ_ANSWER_LENGTH];
+
+/* a table of the first so many calls, with just enough bytes for their answers */
+static uint32_t make_table(size_t count)
+{
+    return crz_table(image, sizeof image, calls, crz_call_offset(count), answers, crz_answer_offset(count));
+}
+
+/* the number of calls that a table may have, by the total that they leave */
+static void most_calls(void)
+{
+    uint32_t i;
+    crz_fresh(image, sizeof image);
+    for (i = 0; i < CALLS; i++)
+        crz_put_pay_in(calls + crz_call_offset(i), 1 + i, 1);
+    expect(make_table(CALLS) == CRZ_NUMBER_BAD_TABLE && crz_get_total(image) == 0, "a call too many");
+    expect(make_table(CRZ_TABLE_COUNT) == CRZ_NUMBER_ACCEPTED && crz_get_total(image) == CRZ_TABLE_COUNT, "the most");
+    expect(crz_get_answer(answers + crz_answer_offset(CRZ_TABLE_COUNT - 1)).total == CRZ_TABLE_COUNT, "the last one's");
+    expect(crz_get_account(image, CRZ_TABLE_COUNT).free == 1, "each for its own account");
+    expect(make_table(0) == CRZ_NUMBER_ACCEPTED && crz_get_total(image) == CRZ_TABLE_COUNT, "none");
+}
+
+/* calls and answers by their places */
+static void tables(void)
+{
+    struct crz_entry_fields entry;
+    expect(crz_call_offset(0) == 0 && crz_call_offset(1) == CRZ_CALL_LENGTH, "where calls begin");
+    expect(crz_answer_offset(0) == 0 && crz_answer_offset(1) == CRZ_ANSWER_LENGTH, "where answers begin");
+    expect(crz_call_offset(CALLS) == sizeof calls && crz_answer_offset(CALLS) == sizeof answers, "where they end");
+    expect(CRZ_TABLE_COUNT == 32 && CRZ_NUMBER_BAD_TABLE == 14, "the table's own numbers");
+    most_calls();
+    crz_put_register(calls, 96, 128, 41237, -5);
+    crz_put_list(calls + crz_call_offset(1), 95, 128, 1, 0, 0);
+    crz_put_list(calls + crz_call_offset(2), 96, 128, 1, 0, 0);
+    expect(make_table(3) == CRZ_NUMBER_ACCEPTED, "three calls");
+    expect(crz_get_receipt(image, 128).state == CRZ_STATE_LISTED, "that leave a listing");
+    expect(crz_get_answer(answers).count == 1, "the first is accepted");
+    expect(crz_get_answer(answers + crz_answer_offset(1)).number == CRZ_NUMBER_WRONG_PARTY, "the second refused");
+    entry = crz_get_entry(answers + crz_answer_offset(2), 0);
+    expect(entry.lot == 128 && entry.outcome == CRZ_OUTCOME_LISTED && entry.from == 96, "the third accepted");
+}
+
 int main(void)
 {
     char version[32];
@@ -481,6 +525,7 @@ int main(void)
     life();
     parts();
     premiums();
+    tables();
     printf("%lu passed, %lu failed\n", passed, failed);
     return failed != 0;
 }

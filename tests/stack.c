@@ -1,11 +1,12 @@
 /*
- * The stack that the entries take, over the calls of the vectors: each is made on a thread whose stack was painted
- * before, and what is painted no more was used. It is held to the bound that crz.h states. Usage: stack LIST. The last
- * line is 'N passed, M failed'; a call that stays below the bound counts once.
+ * The stack that the entries take, over the calls and tables of the vectors: each is made on a thread whose stack was
+ * painted before, and what is painted no more was used. A call is also made in a full table of its like, on a copy of
+ * the image. All of it is held to the bound that crz.h states. Usage: stack LIST. The last line is 'N passed, M
+ * failed'; a call or a table that stays below the bound counts once.
  */
 #define _XOPEN_SOURCE 700
 
-#include "../include/crz.h"
+#include "../include/crz_records.h"
 #include "vector_file.h"
 
 #include <pthread.h>
@@ -19,7 +20,7 @@ static uint8_t image[VECTOR_MOST], answer[VECTOR_MOST];
 static unsigned char *stack;
 static const struct vector_step *step; /* what the thread makes */
 static uint32_t number;
-static size_t most, own;
+static size_t most[STEP_KINDS], own; /* the most by kind of step; what a thread takes that does nothing */
 
 static void *nothing(void *none)
 {
@@ -35,6 +36,24 @@ static void *make_fresh(void *none)
 static void *make_call(void *none)
 {
     number = crz_call(image, step->image_len, step->call, step->call_len, answer, step->answer_len);
+    return none;
+}
+
+static void *make_table(void *none)
+{
+    number = crz_table(image, step->image_len, step->call, step->call_len, answer, step->answer_len);
+    return none;
+}
+
+/* the record of the step as often as a table can have it, on a copy of the image */
+static void *make_full_table(void *none)
+{
+    static uint8_t copy[VECTOR_MOST], calls[CRZ_TABLE_COUNT * CRZ_CALL_LENGTH], answers[VECTOR_MOST];
+    size_t i;
+    for (i = 0; i < CRZ_TABLE_COUNT; i++)
+        memcpy(calls + crz_call_offset(i), step->call, CRZ_CALL_LENGTH);
+    memcpy(copy, image, sizeof copy);
+    number = crz_table(copy, step->image_len, calls, sizeof calls, answers, sizeof answers);
     return none;
 }
 
@@ -55,23 +74,29 @@ static size_t used(void *(*work)(void *))
     return STACK - i;
 }
 
-/* beside what a thread takes that does nothing */
-static int within_bound(void *(*work)(void *), uint32_t wanted)
+static int within_bound(void *(*work)(void *), enum step_kind kind, uint32_t wanted)
 {
     size_t all = used(work), taken = all > own ? all - own : 0;
-    if (taken > most)
-        most = taken;
+    if (taken > most[kind])
+        most[kind] = taken;
     return number == wanted && taken < BOUND;
+}
+
+static int call_within_bound(void)
+{
+    int full = step->call_len != CRZ_CALL_LENGTH || within_bound(make_full_table, STEP_TABLE, CRZ_NUMBER_ACCEPTED);
+    return within_bound(make_call, STEP_CALL, step->number) && full;
 }
 
 static int make(const struct vector_step *next)
 {
     step = next;
     switch (step->kind) {
-    case STEP_FRESH: return within_bound(make_fresh, CRZ_NUMBER_ACCEPTED);
+    case STEP_FRESH: return within_bound(make_fresh, STEP_FRESH, CRZ_NUMBER_ACCEPTED);
     case STEP_PATCH: patch_image(&step->patch, image); return 1;
     case STEP_LENGTH: memset(image + step->image_len, 0, sizeof image - step->image_len); return 1;
-    default: return within_bound(make_call, step->number);
+    case STEP_TABLE: return within_bound(make_table, STEP_TABLE, step->number);
+    default: return call_within_bound();
     }
 }
 
@@ -89,8 +114,9 @@ int main(int argc, char **argv)
     used(nothing); /* the first thread of a program takes more */
     own = used(nothing);
     walk_vectors(argv[1], "", make, &tally);
-    printf("%lu bytes of stack at most\n", (unsigned long)most);
-    if (most == 0)
+    printf("bytes of stack at most: %lu for a fresh image, %lu for a call, %lu for a table\n",
+        (unsigned long)most[STEP_FRESH], (unsigned long)most[STEP_CALL], (unsigned long)most[STEP_TABLE]);
+    if (most[STEP_CALL] == 0 || most[STEP_TABLE] == 0)
         tally.failed++;
     return show_tally(&tally);
 }

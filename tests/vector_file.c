@@ -7,7 +7,7 @@
 
 enum { LINE_MOST = 1 << 18, NAME_MOST = 256 };
 
-static const char letters[STEP_KINDS + 1] = "ZPLC";
+static const char letters[STEP_KINDS + 1] = "ZPLCT";
 
 /* a file while it is read */
 struct reader {
@@ -126,15 +126,28 @@ static int read_number(void)
     return good;
 }
 
-static int read_answer(void)
+/* an answer that has this place in the buffer, counted from 0 */
+static int take_answer(const char **text, size_t place)
+{
+    uint8_t *answer = step.answer + place * CRZ_ANSWER_LENGTH;
+    size_t count;
+    if (step.answer_len < (place + 1) * CRZ_ANSWER_LENGTH || (place > 0 && !take(text, " ")))
+        return 0;
+    memset(answer, 0, CRZ_ANSWER_LENGTH);
+    return take_bytes(text, answer, CRZ_ANSWER_LENGTH, &count);
+}
+
+/* one answer, or one for each call of a table */
+static int read_answers(void)
 {
     const char *text = read_behind("A ");
-    size_t most = step.answer_len < CRZ_ANSWER_LENGTH ? step.answer_len : CRZ_ANSWER_LENGTH, count;
+    size_t count = step.kind == STEP_TABLE ? step.call_len / CRZ_CALL_LENGTH : 1, i = 0;
     memset(step.answer, VECTOR_FILL, step.answer_len);
     if (take(&text, "-"))
         return take_end(&text);
-    memset(step.answer, 0, most);
-    return take_bytes(&text, step.answer, most, &count) && take_end(&text);
+    while (i < count && take_answer(&text, i))
+        i++;
+    return i > 0 && i == count && take_end(&text);
 }
 
 static int read_change(void)
@@ -143,6 +156,7 @@ static int read_change(void)
     return (take(&text, "same") || take_patch(&text, &step.patch, step.image_len)) && take_end(&text);
 }
 
+/* a call or a table */
 static int read_call(const char *text)
 {
     step.call_len = 0;
@@ -150,7 +164,7 @@ static int read_call(const char *text)
         return 0;
     if (!take(&text, " ") || !take_number(&text, &step.answer_len) || !take_end(&text))
         return 0;
-    return read_number() && read_answer() && read_change();
+    return read_number() && read_answers() && read_change();
 }
 
 /* the step that the line begins, with the lines behind it */
@@ -172,8 +186,8 @@ static int read_step(void)
         step.kind = STEP_LENGTH;
         return take_number(&text, &step.image_len) && take_end(&text);
     }
-    step.kind = STEP_CALL;
-    return take(&text, "C ") && read_call(text);
+    step.kind = reader.line[0] == 'T' ? STEP_TABLE : STEP_CALL;
+    return take(&text, step.kind == STEP_TABLE ? "T " : "C ") && read_call(text);
 }
 
 /* 0 at the end of the file and at its first fault */
@@ -207,7 +221,7 @@ void patch_image(const struct patch *patch, uint8_t *image)
 static void make_step(step_test *test, struct tally *tally)
 {
     int good = test(&step);
-    if (good && step.kind == STEP_CALL)
+    if (good && (step.kind == STEP_CALL || step.kind == STEP_TABLE))
         tally->passed++;
     if (!good && tally->failed++ < 5)
         printf("%s:%lu: the step that ends here differs\n", reader.path, reader.line_number);
@@ -248,7 +262,7 @@ static void walk_file(const char *path, const unsigned long *wanted, step_test *
         reader.fault = "the file cannot be read";
     fclose(reader.file);
     hold_file(wanted, &own);
-    printf("%s: %lu calls agree, %lu differ\n", path, own.passed, own.failed);
+    printf("%s: %lu calls and tables agree, %lu differ\n", path, own.passed, own.failed);
     tally->passed += own.passed;
     tally->failed += own.failed;
 }
@@ -259,8 +273,9 @@ static void walk_file(const char *path, const unsigned long *wanted, step_test *
 static int read_entry(const char *line, char *name, unsigned long *counts)
 {
     char more;
-    return sscanf(line, "%255s %lu %lu %lu %lu %c", name, &counts[0], &counts[1], &counts[2], &counts[3], &more)
-           == 1 + STEP_KINDS;
+    int found = sscanf(
+        line, "%255s %lu %lu %lu %lu %lu %c", name, &counts[0], &counts[1], &counts[2], &counts[3], &counts[4], &more);
+    return found == 1 + STEP_KINDS;
 }
 
 /* a name's path in the folder of the list */

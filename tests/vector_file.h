@@ -10,6 +10,8 @@
  *   R n          the number returned,
  *   A hex        the answer without its last zeros, '-' where nothing is written, and
  *   I o:hex ..   the bytes of the image that change, 'same' where none does
+ *   T hex n      a table of calls, '-' for none, and the length of its answers; behind it the same three lines, with a
+ *                word for each call in A
  *
  * A list beside the files says how many lines of each kind a file has. A line that is none of these, stands in another
  * place or ends too early is a fault of the file, and so is a count that differs from the list's: a test that reads
@@ -23,7 +25,7 @@
 
 enum { VECTOR_FILL = 0xa5, VECTOR_MOST = 1 << 16 }; /* bytes of a buffer */
 
-enum step_kind { STEP_FRESH, STEP_PATCH, STEP_LENGTH, STEP_CALL, STEP_KINDS };
+enum step_kind { STEP_FRESH, STEP_PATCH, STEP_LENGTH, STEP_CALL, STEP_TABLE, STEP_KINDS };
 
 /* bytes with their places in the image */
 struct patch {
@@ -36,12 +38,12 @@ struct patch {
 
 struct vector_step {
     enum step_kind kind;
-    size_t image_len;   /* the image's length after the step */
-    struct patch patch; /* what a patch replaces, what a call changes */
-    uint8_t call[VECTOR_MOST];
+    size_t image_len;          /* the image's length after the step */
+    struct patch patch;        /* what a patch replaces, what a call or a table changes */
+    uint8_t call[VECTOR_MOST]; /* one record, or those of a table */
     size_t call_len, answer_len;
     uint32_t number;
-    uint8_t answer[VECTOR_MOST]; /* the whole buffer, as the call leaves it */
+    uint8_t answer[VECTOR_MOST]; /* the whole buffer, as the call or the table leaves it */
 };
 
 void patch_image(const struct patch *patch, uint8_t *image);
@@ -53,8 +55,8 @@ struct tally {
 /* Makes a step; whether all goes as the step says. */
 typedef int step_test(const struct vector_step *step);
 
-/* Walks through the files of the list whose names begin so. A call counts once, and a step of another kind or a file
- * counts where it fails. */
+/* Walks through the files of the list whose names begin so. A call counts once and a table once; a step of another kind
+ * or a file counts where it fails. */
 void walk_vectors(const char *list, const char *beginning, step_test *test, struct tally *tally);
 
 /* The line that the gate reads, and the status of the program. */

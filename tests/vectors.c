@@ -1,6 +1,6 @@
 /*
- * The vectors through the C boundary: number, image and answer of every call, the buffers standing between painted
- * bytes, ending at a wall and starting at one. Usage: vectors LIST. The last line is 'N passed, M failed'.
+ * The vectors through the C boundary: number, image and answers of every call and table, the buffers standing between
+ * painted bytes, ending at a wall and starting at one. Usage: vectors LIST. The last line is 'N passed, M failed'.
  */
 #include "../include/crz.h"
 #include "lent.h"
@@ -29,8 +29,15 @@ static void set_length(size_t len)
     lend_bytes(&image, place, expected, len);
 }
 
-/* whichever image the call leaves, the next one goes on from the one that the vectors say */
-static int call_agrees(const struct vector_step *step)
+/* both entries have one form */
+static uint32_t make(enum step_kind kind)
+{
+    return (kind == STEP_TABLE ? crz_table : crz_call)(
+        image.bytes, image.len, call.bytes, call.len, answer.bytes, answer.len);
+}
+
+/* whichever image the call or the table leaves, the next one goes on from the one that the vectors say */
+static int made_agrees(const struct vector_step *step)
 {
     uint32_t number;
     int same;
@@ -38,7 +45,7 @@ static int call_agrees(const struct vector_step *step)
     patch_image(&step->patch, expected);
     lend_bytes(&call, place, step->call, step->call_len);
     lend_filled(&answer, place, VECTOR_FILL, step->answer_len);
-    number = crz_call(image.bytes, image.len, call.bytes, call.len, answer.bytes, answer.len);
+    number = make(step->kind);
     same = memcmp(image.bytes, expected, image.len) == 0;
     memcpy(image.bytes, expected, image.len);
     return same && number == step->number && memcmp(call.bytes, step->call, call.len) == 0
@@ -52,7 +59,7 @@ static int agrees(const struct vector_step *step)
     case STEP_FRESH: return fresh(step);
     case STEP_PATCH: patch_image(&step->patch, image.bytes); return 1;
     case STEP_LENGTH: set_length(step->image_len); return 1;
-    default: return call_agrees(step);
+    default: return made_agrees(step);
     }
 }
 
