@@ -266,8 +266,8 @@ module _ {M : Type 1} (𝓤 : URA M) (H : Heap 𝓤) (A : Atoms 𝓤) (W : Given
         rewrite ! 10 (λ (t : Bool). ‵ (fat fullShare tyBool l₉ 0 (vbool t))) (lt-ltb i n small) refl $
         stays ! (load ! (from ! (stop !)) (look ! 10 refl)) $
         -- where answer i starts and ends
-        assigns ! (bin ! (load ! (from ! (stop !)) (look ! 6 refl)) (big-lit ! (record { fits = lit< tt })) (record { fits = start-fits })) (from ! (stop !)) (init ! 7 refl (tt, record { fits = start-fits })) $
-        assigns ! (bin ! (load ! (from ! (stop !)) (look ! 7 refl)) (big-lit ! (record { fits = lit< tt })) (record { fits = end-fits })) (from ! (stop !)) (init ! 8 refl (tt, record { fits = end-fits })) $
+        assigns ! (bin ! (load ! (from ! (stop !)) (look ! 6 refl)) (big-lit ! (record { fits = lit< tt })) (record { fits = omega (arith, within, answers-fit) })) (from ! (stop !)) (init ! 7 refl (tt, record { fits = omega (arith, within, answers-fit) })) $
+        assigns ! (bin ! (load ! (from ! (stop !)) (look ! 7 refl)) (big-lit ! (record { fits = lit< tt })) (record { fits = omega (arith, within, answers-fit) })) (from ! (stop !)) (init ! 8 refl (tt, record { fits = omega (arith, within, answers-fit) })) $
         -- the image's reference
         assigns ! (addr ! (from ! (fld ! refl (hop ! (look-in ! 20 (sub ! 0 refl (whole !))) (stop !))))) (from ! (stop !)) (init ! 12 refl (tt, tt)) $
         assigns ! (agg ! (and-then ! (load ! (from ! (stop !)) (look ! 12 refl)) (and-then ! (load ! (from ! (fld ! refl (stop !))) (look-in ! 20 (sub ! 1 refl (whole !)))) (no-more !)))) (from ! (stop !)) (init ! 13 refl (tt, (tt, (record { fits = room .0 }, tt)))) $
@@ -284,7 +284,7 @@ module _ {M : Type 1} (𝓤 : URA M) (H : Heap 𝓤) (A : Atoms 𝓤) (W : Given
         move ! (2 ∷ 1 ∷ []) $ fjoin ! $ move ! (2 ∷ 0 ∷ []) $ fjoin ! $
         -- [the calls; their token; the image; its token; the answers; their token; _5; ..]
         assigns ! (bin ! (load ! (from ! (fld ! refl (stop !))) (look-in ! 23 (sub ! 0 refl (whole !)))) (load ! (from ! (stop !)) (look ! 7 refl)) tt) (from ! (stop !)) (init ! 16 refl (tt, tt)) $
-        assigns ! (bin ! (load ! (from ! (stop !)) (look ! 8 refl)) (load ! (from ! (stop !)) (look ! 7 refl)) ordered) (from ! (stop !)) (init ! 17 refl (tt, record { fits = length-fits })) $
+        assigns ! (bin ! (load ! (from ! (stop !)) (look ! 8 refl)) (load ! (from ! (stop !)) (look ! 7 refl)) (omega arith)) (from ! (stop !)) (init ! 17 refl (tt, record { fits = omega arith })) $
         rewrite ! 16 (λ (p : ℕ). ‵ (fat fullShare tyPtr l₁₅ 0 (vptr b₂ p))) (sym starts) refl $
         rewrite ! 17 (λ (p : ℕ). ‵ (fat fullShare word l₁₆ 0 (vint w64 p))) (part-long (i * answerLength) ∙ sym own-long) refl $
         assigns ! (addr ! (from ! (hop ! (look ! 16 refl) (stop !)))) (from ! (stop !)) (init ! 18 refl (tt, tt)) $
@@ -310,7 +310,7 @@ module _ {M : Type 1} (𝓤 : URA M) (H : Heap 𝓤) (A : Atoms 𝓤) (W : Given
         move ! (2 ∷ []) $ split ! $ lft-end ! tt $ move ! (0 ∷ 9 ∷ 5 ∷ []) $
         use3 W (later (‵ (Ans (after av i (ws .1 .1 .1 .0)) (sa (after av i (ws .1 .1 .1 .0)) ∷ [])) ⊛ ‵ (flft κ₂ q₂))) (part-back u8 κ₂ (ν₂ ∷ []) q₂ γ₂ b₂ o₂ 𝓤 H A W (named 2) (named 1) av (i * answerLength) answerLength δ₂ (ws .1 .1 .1 .0)) $ await ! tt $ split ! $
         -- [the answers; their token; true; the image; its token; the result; …; …; …; the calls; their token; _5; .. _18; _1; _2; _3; _4; _0; ..]
-        assigns-last ! (bin ! (load ! (from ! (stop !)) (look ! 11 refl)) (lit ! tt) (record { fits = next-fits })) (from ! (stop !)) (store ! 11 refl (tt, record { fits = next-fits })) $
+        assigns-last ! (bin ! (load ! (from ! (stop !)) (look ! 11 refl)) (lit ! tt) (record { fits = omega (arith, small, gn .0) })) (from ! (stop !)) (store ! 11 refl (tt, record { fits = omega (arith, small, gn .0) })) $
         forget ! 12 refl $ forget ! 13 refl $ forget ! 14 refl $ forget ! 15 refl $ forget ! 16 refl $ forget ! 17 refl $ forget ! 18 refl $ forget ! 19 refl $ forget ! 20 refl $ forget ! 21 refl $ forget ! 22 refl $ forget ! 23 refl $ forget ! 24 refl $
         rewrite ! 11 (λ (j : ℕ). ‵ (fat fullShare word l₅ 0 (vint w64 j))) (one-more i) refl $
         rewrite ! 25 (λ (j : ℕ). ‵ (fat fullShare slice l₁ 0 (sliceVal (b, o) j))) (sym l) refl $
@@ -329,18 +329,6 @@ module _ {M : Type 1} (𝓤 : URA M) (H : Heap 𝓤) (A : Atoms 𝓤) (W : Given
         answers-fit : length av < 2 ^ 64
         answers-fit = subst (λ (j : ℕ). j < 2 ^ 64) (sym la) (ga .0)
 
-        start-fits : i * answerLength < 2 ^ 64
-        start-fits = omega (arith, within, answers-fit)
-
-        end-fits : i * answerLength + answerLength < 2 ^ 64
-        end-fits = omega (arith, within, answers-fit)
-
-        ordered : i * answerLength ≤ i * answerLength + answerLength
-        ordered = omega arith
-
-        length-fits : i * answerLength + answerLength - i * answerLength < 2 ^ 64
-        length-fits = omega arith
-
         own-long : length (own av i) ≡ answerLength
         own-long = own-is i av within
 
@@ -349,9 +337,6 @@ module _ {M : Type 1} (𝓤 : URA M) (H : Heap 𝓤) (A : Atoms 𝓤) (W : Given
 
         starts : startAt u8 av (i * answerLength) o₂ ≡ i * answerLength + o₂
         starts = part-start (i * answerLength) o₂ av (omega (arith, within))
-
-        next-fits : i + 1 < 2 ^ 64
-        next-fits = let h = gn .0 in omega arith
 
     -- the turn that leaves the loop, and the rest of the body
     ends : (zs av : List ℕ) (X : SProp 𝓤) → length zs ≡ length xs → length av ≡ length as₀ → (zs, av) ≡ inTurn callWith xs ys as₀ → ent 𝓤 (⋆ 𝓤 H A (At n zs av)) (Wp 𝓤 H C Λ En m.turn-1 (afterTurn 𝓤 H X Left))
