@@ -5,7 +5,7 @@ pub mod Order
 pub mod Kept
 pub mod Values
 pub mod Calls
-pub mod Tables
+pub mod Singly
 pub mod Demand
 pub mod Quotes
 pub mod Premiums

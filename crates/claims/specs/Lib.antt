@@ -1,7 +1,7 @@
 pub mod PriceOrder
 pub mod History
 pub mod Demand
-pub mod Tables
+pub mod Singly
 pub mod Kept
 pub mod RoundTrips
 pub mod Words

@@ -19,7 +19,7 @@ use Rattle.crz.specs.Returned.{recordNumber}
 use Rattle.claims.specs.Demand.{Exchange, Handed, MadeFrom, callsOf, fed, KeepsImage, StaysValid, FreshIsValid, Demand3}
 use Rattle.claims.specs.History.{acceptedWith}
 use Rattle.claims.specs.Laws.Calls.{zero-for, new-zone, read-back, image-kept}
-use Rattle.claims.specs.Laws.Tables.{OneByOne, none-made, then, one-by-one}
+use Rattle.claims.specs.Laws.Singly.{OneByOne, none-made, then, one-by-one}
 use Rattle.claims.specs.Laws.Values.{After, after-refused, after-accepted, after-fresh, holds}
 
 record AfterOn (list : List Exchange) (image : List ℕ) : Type 0 where

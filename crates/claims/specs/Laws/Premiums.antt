@@ -46,7 +46,7 @@ use Rattle.crz.specs.Laws.Valid.{good-image, Zero}
 use Rattle.crz.specs.Returned.{recordNumber}
 use Rattle.claims.specs.Demand.{Exchange, fed}
 use Rattle.claims.specs.Laws.Calls.{zero-for, new-zone, accepted-call}
-use Rattle.claims.specs.Laws.Tables.{OneByOne, none-made, then, one-by-one}
+use Rattle.claims.specs.Laws.Singly.{OneByOne, none-made, then, one-by-one}
 use Rattle.claims.specs.Laws.InStep.{nth-replicate}
 use Rattle.claims.specs.History.{acceptedWith}
 use Rattle.claims.specs.Premiums.{receiptIn, Graded, PremiumGiven, PremiumStays, premiumBy, premiumAfter, PremiumsKnown}

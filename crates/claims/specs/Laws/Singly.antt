@@ -31,7 +31,7 @@ use Rattle.crz.specs.Laws.Returned.{Left, refused, accepted, returned-case}
 use Rattle.crz.specs.Returned.{afterBufferNumbers, callNumber, recordNumber, refusal, Return, returnBy, callEntry, Returned}
 use Rattle.claims.specs.Demand.{Exchange, Handed, oneCall, MadeFrom, noCalls, next, nextTable, callsOfTable, callsOf}
 use Rattle.claims.specs.Laws.Calls.{zero-for, kept}
-use Rattle.claims.specs.Tables.{exchangesOf, TableAsCalls, AnswersLong, SameSingly, RestKept, RefusedAlone, EmptyTable, BadImage}
+use Rattle.claims.specs.Singly.{exchangesOf, TableAsCalls, AnswersLong, SameSingly, RestKept, RefusedAlone, EmptyTable, BadImage}
 
 -- ── Numbers ────────────────────────────────────────────────────────────────────────────────────
 
