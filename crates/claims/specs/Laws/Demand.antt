@@ -16,7 +16,7 @@ use Rattle.answers.specs.Buffers.{callIn, entriesIn, acceptedAnswer}
 use Rattle.crz.specs.Laws.Returned.{Left, refused, accepted, returned-case}
 use Rattle.crz.specs.Laws.Valid.{Zero, new-valid}
 use Rattle.crz.specs.Returned.{recordNumber}
-use Rattle.claims.specs.Demand.{Exchange, Handed, MadeFrom, callsOf, fed, KeepsImage, StaysValid, FreshIsValid, Demand3}
+use Rattle.claims.specs.Demand.{Exchange, callsOf, fed, KeepsImage, StaysValid, FreshIsValid, Demand3}
 use Rattle.claims.specs.History.{acceptedWith}
 use Rattle.claims.specs.Laws.Calls.{zero-for, new-zone, read-back, image-kept}
 use Rattle.claims.specs.Laws.Singly.{OneByOne, none-made, then, one-by-one}

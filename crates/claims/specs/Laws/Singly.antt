@@ -1,7 +1,7 @@
 -- A table of calls is its calls, made one by one.
 -- Assumes nothing.
 use mathlib.Core.Bool.{Bool, true, false, not, cond}
-use mathlib.Core.List.{List, [], _∷_, _++_, map, reverse, reverseAux}
+use mathlib.Core.List.{List, [], _∷_, _++_, map, reverseAux}
 use mathlib.Core.Logic.{_≢_}
 use mathlib.Core.Path.{_≡_, refl, sym, ap, _∙_, subst}
 use Prim.Native.Nat.{ℕ, zero, suc, _+_, _*_, _≤_, _<_}
@@ -25,7 +25,7 @@ use Rattle.image.specs.Table.{table, runAt}
 use Rattle.answers.specs.Buffers.{callLength, callIn, callCount, callRecords, answerLength, answerNumberPlace, headerOf, acceptedBytes, acceptedAnswer, refusedAnswer, padded}
 use Rattle.answers.specs.Laws.Answer.{padded-long, accepted-long}
 use Rattle.crz.specs.CallTable.{inTurn, tableFits, tableEntry}
-use Rattle.crz.specs.Laws.CallTable.{Fitting, fitting, Taken, table-taken, table-left}
+use Rattle.crz.specs.Laws.CallTable.{fitting, Taken, table-taken, table-left}
 use Rattle.crz.specs.Laws.Numbers.{refused-by}
 use Rattle.crz.specs.Laws.Returned.{Left, refused, accepted, returned-case}
 use Rattle.crz.specs.Returned.{afterBufferNumbers, callNumber, recordNumber, refusal, Return, returnBy, callEntry, Returned}

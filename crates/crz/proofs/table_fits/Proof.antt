@@ -3,7 +3,6 @@ use native.Mathlib.Omega.{arith}
 use Rattle.answers.specs.Buffers.{answerLength}
 use Rattle.crz.specs.CallTable.{tableFits}
 use Rattle.crz.specs.Laws.CallTable.{room-for}
-use borrow.Author.Needs.{needs}
 use Rattle.crz.proofs.table_fits.Statement.{statement}
 use Rattle.crz.proofs.table_fits.Tie as tie
 
