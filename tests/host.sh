@@ -4,20 +4,22 @@
 # shellcheck source=tests/host_common.sh
 . "$(dirname "$0")/host_common.sh"
 
+version=$(sed -n 's/^#define CRZ_VERSION "\(.*\)"/\1/p' "$here/include/crz.h")
+
 # ── Commands and options ────────────────────────────────────────────────────────────────────────────
 ends 2 "crz new FILE"
 ends 0 "crz new FILE" --help
 ends 0 "crz new FILE" help
-ends 0 "crz 3.0.1, zone format 4, SQLite 3" --version
+ends 0 "crz $version, zone format 4, SQLite 3" --version
 for command in new call play show log verify statement due import export; do
     ends 0 "crz $command FILE" help "$command"
     ends 0 "crz $command FILE" "$command" --help
-    ends 0 "crz 3.0.1, zone format 4" "$command" --version
+    ends 0 "crz $version, zone format 4" "$command" --version
     ends 2 "$command takes FILE" "$command"
 done
 ends 0 "crz new FILE" help --help
 ends 0 "crz new FILE" help help
-ends 0 "crz 3.0.1" help --version
+ends 0 "crz $version" help --version
 ends 0 "kilograms   1,000 to 60,000" help call
 ends 0 "register account N receipt N kilograms N [premium N]" help register
 ends 0 "premium     -5,000 to 5,000; 0 where it is left out" help register
@@ -635,7 +637,6 @@ holds "what they print: $(./ours <thirds.image)" test "$(./ours <thirds.image)" 
 the next confirmation pays 1 fen"
 holds "and without an invoice" test "$(./ours <parts.image)" = "lot 3: left to invoice 34 fen
 no invoice is pending"
-version=$(sed -n 's/^#define CRZ_VERSION "\(.*\)"/\1/p' "$here/include/crz.h")
 holds "the man page is of version $version" grep -q "^.TH CRZ 1 .* \"crz $version\"" "$here/host/crz.1"
 for command in new call play show log verify statement due import export; do
     holds "the man page has $command" grep -q "fBcrz $command" "$here/host/crz.1"
