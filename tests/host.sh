@@ -768,10 +768,14 @@ mkdir readme guide guide/target
 (cd readme && python3 "$here/tests/host_samples.py" "$crz" "$here/README.md")
 holds "the README's samples" test $? -eq 0
 "$crz" new guide/target/day.crz >/dev/null && "$crz" play guide/target/day.crz "$here/host/day.txt" >/dev/null
+# shellcheck disable=SC2016 # the quotes are the document's
+sed -n '/^`open.txt`:$/,/^one commit/s/^    //p' "$here/docs/GUIDE.md" >guide/open.txt
 (cd guide && python3 "$here/tests/host_samples.py" "$crz" "$here/docs/GUIDE.md")
 holds "the guide's samples" test $? -eq 0
-# the guide's lines for a host of one's own, on the image of an invoice that waits
-cat >ours.c <<'END'
+ends 0 "replay: 39 calls compared, 5 of them in 1 table, 38 accepted and 1 refused" verify guide/target/day.crz
+# guided NUMBER NAME: a program with the guide's lines in C of that number, on an image from standard input
+guided() {
+    cat >"$2.c" <<'END'
 #include "crz_records.h"
 #include <inttypes.h>
 #include <stdio.h>
@@ -781,10 +785,22 @@ int main(void)
     if (fread(image, 1, sizeof image, stdin) != sizeof image)
         return 1;
 END
-# shellcheck disable=SC2016 # the quotes are the document's
-sed -n '/^```c$/,/^```$/{/^```/d;p}' "$here/docs/GUIDE.md" >>ours.c
-printf '    return 0;\n}\n' >>ours.c
-holds "the guide's lines in C" gcc -std=c99 -Wall -Wextra -Wconversion -Werror -I"$here/include" -o ours ours.c
+    # shellcheck disable=SC2016 # the quotes are the document's
+    awk -v number="$1" '/^```c$/ { within = ++found == number; next } /^```$/ { within = 0 } within' "$here/docs/GUIDE.md" >>"$2.c"
+    printf '    return 0;\n}\n' >>"$2.c"
+    gcc -std=c99 -Wall -Wextra -Wconversion -Werror -I"$here/include" -o "$2" "$2.c" "$here/target/staticlib/libcrz.a"
+}
+holds "the guide's lines in C" guided 1 ours
+holds "the guide's table of calls in C" guided 2 ours.table
+"$crz" new ours.zone >/dev/null && "$crz" export ours.zone ours.image >/dev/null
+holds "what it prints: $(./ours.table <ours.image)" test "$(./ours.table <ours.image)" = "call 0: number 0
+call 1: number 11
+call 2: number 0"
+head -c "$image_length" /dev/zero >ours.zeros
+holds "and on no valid image" test "$(./ours.table <ours.zeros)" = "call 0: number 2
+call 1: number 2
+call 2: number 2"
+# on the image of an invoice that waits
 "$crz" call cut.thirds invoice account 1 receipt 3 fen 4 >/dev/null && "$crz" export cut.thirds thirds.image >/dev/null
 holds "what they print: $(./ours <thirds.image)" test "$(./ours <thirds.image)" = "lot 3: left to invoice 30 fen
 the next confirmation pays 1 fen"
