@@ -110,21 +110,31 @@ struct fault {
     uint64_t sequence;
 };
 
-/* The entry and the end of a commit: a table's lines and the image hash behind them, or one line with both. */
+/* A line of a table, behind those before it. */
+static struct fault fault_in_table(const struct line *lines, size_t place)
+{
+    const struct line *line = &lines[place];
+    if (place >= CRZ_TABLE_COUNT)
+        return (struct fault){"its table has more calls than a table can have", line->sequence};
+    if (strcmp(line->time, lines[0].time) != 0)
+        return (struct fault){"it has another time than the table that it stands in", line->sequence};
+    if (line->call_length != CRZ_CALL_LENGTH)
+        return (struct fault){"its call record has another length than those of a table", line->sequence};
+    return (struct fault){NULL, 0};
+}
+
+/* A commit is one line with an image hash, or the lines of a table, of which the last one has it. */
 static struct fault fault_in_commit(const struct line *lines, size_t place)
 {
     const struct line *line = &lines[place];
-    int in_table = line->sequence != 0 && line_in_table(line);
-    if (line->sequence != 0 && !in_table && strcmp(line->entry, ENTRY_CALL) != 0)
+    if (line->sequence != 0 && line_in_table(line))
+        return fault_in_table(lines, place);
+    if (line->sequence != 0 && strcmp(line->entry, ENTRY_CALL) != 0)
         return (struct fault){"it went through an entry that this program does not know", line->sequence};
-    if (!in_table && !line->has_image_hash)
+    if (!line->has_image_hash)
         return (struct fault){"it has no hash of the image", line->sequence};
-    if (!in_table && place > 0)
+    if (place > 0)
         return (struct fault){"its table ends with it, but it has no hash of the image", line->sequence - 1};
-    if (in_table && line->call_length != CRZ_CALL_LENGTH)
-        return (struct fault){"its call record has another length than those of a table", line->sequence};
-    if (place >= CRZ_TABLE_COUNT)
-        return (struct fault){"its table has more calls than a table can have", line->sequence};
     return (struct fault){NULL, 0};
 }
 

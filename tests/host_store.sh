@@ -854,6 +854,15 @@ forged 69 "its table ends with it, but it has no hash of the image" "update jour
 forged 107 "its table ends with it, but it has no hash of the image" "update journal set image_hash = null where sequence = 107"
 forged 71 "its table has more calls than a table can have" "update journal set image_hash = null where sequence = 70"
 forged 71 "its table has more calls than a table can have" "update journal set image_hash = null where sequence in (70, 102)"
+forged 50 "it has another time than the table that it stands in" \
+    "update journal set time = '2001-01-01T00:00:00.000Z' where sequence = 50"
+cp good joined
+for _ in 1 2; do
+    sleep 0.01
+    "$crz" play joined three --table >/dev/null
+done
+cp joined bad && python3 forge.py bad "update journal set image_hash = null where sequence = 113"
+ends 3 "line 114 of the journal is the first bad one: it has another time than the table that it stands in" verify bad
 forged 50 "the image after it is another" \
     "update journal set image_hash = (select image_hash from journal where sequence = 70) where sequence = 50"
 forged 38 "it has no hash of the image" "update journal set image_hash = null where sequence = 38"
