@@ -110,7 +110,7 @@ struct fault {
     uint64_t sequence;
 };
 
-/* A line of a table, behind those before it. */
+/* A line of a table: the lines before it are of the same one. */
 static struct fault fault_in_table(const struct line *lines, size_t place)
 {
     const struct line *line = &lines[place];
@@ -138,14 +138,16 @@ static struct fault fault_in_commit(const struct line *lines, size_t place)
     return (struct fault){NULL, 0};
 }
 
-/* A line of a commit, behind those before it. */
+/* The next line of a commit, bound to those before it. */
 static struct fault judge_line(struct replay *replay, const struct line *lines, size_t place)
 {
     const struct line *line = &lines[place];
     struct hash hash;
     if (line->sequence != replay->next)
         return (struct fault){"it is missing", replay->next};
-    if (hash_line(&replay->before, line, &hash) != 0 || !hash_same(&hash, &line->hash))
+    if (hash_line(&replay->before, line, &hash) != 0)
+        return (struct fault){"its hash cannot be made again", line->sequence};
+    if (!hash_same(&hash, &line->hash))
         return (struct fault){"it does not fit its hash", line->sequence};
     replay->before = line->hash;
     replay->next = line->sequence + 1;
