@@ -34,7 +34,7 @@ static const struct help helps[] = {
         "script - is standard input. Every bad line is named first, and then no call is made.\n"
         "  --table          make them in tables of up to 32 calls: a kill leaves all calls of a table or none, nobody\n"
         "                   else calls between them, and their answers are shown when all are durable. A refused call\n"
-        "                   does not stop those behind it. A long script takes less time this way\n"
+        "                   does not end its table. A long script takes less time this way\n"
         "  --expect N       the first call, or table, only if N is the journal's last sequence number\n"
         "  --stop           end at the first refused call; a table then ends with it\n"
         "  --wait SECONDS   how long to wait for another program, 10 if not given\n"
