@@ -28,32 +28,74 @@ static int shown(void)
 
 /* ── Calls ─────────────────────────────────────────────────────────────────────────────────────── */
 
-static void show_made(const struct made *made, int json)
+/* The calls of a commit: NULL where it is no table. */
+static const struct span *span_of(const struct line *lines, size_t count, struct span *span)
 {
-    if (json)
-        json_line(&made->line, made->found);
-    else
-        print_made(&made->line, made->found);
+    *span = (struct span){lines[0].sequence, lines[count - 1].sequence};
+    return line_in_table(&lines[0]) ? span : NULL;
 }
 
-/* Makes a call and shows its answer, which is durable by then. */
-static enum status make_call(struct store *store, const uint8_t *call, const struct expect *expect, int json)
+static void print_script_call(const uint8_t *call)
 {
-    static struct made made;
-    enum status status = zone_call(store, call, expect, &made);
+    fputs("> ", stdout);
+    print_call(call);
+    putchar('\n');
+}
+
+/* A call of a table stands before its own answer. */
+static void show_answer(const struct line *line, const struct span *table, const uint8_t *found, int json)
+{
+    if (json) {
+        json_line(line, table, found);
+        return;
+    }
+    if (table != NULL)
+        print_script_call(line->call);
+    print_made(line, found);
+}
+
+/* Words are made from the image that a call found. Within a table it is what the calls before it, one by one, make. */
+static void show_made(const struct made *made, int json)
+{
+    uint8_t found[CRZ_IMAGE_LENGTH], answer[CRZ_ANSWER_LENGTH];
+    struct span span;
+    const struct span *table = span_of(made->lines, made->count, &span);
+    memcpy(found, made->found, sizeof found);
+    for (size_t i = 0; i < made->count; i++) {
+        const uint8_t *call = made->lines[i].call;
+        show_answer(&made->lines[i], table, found, json);
+        crz_call(found, sizeof found, call, CRZ_CALL_LENGTH, answer, sizeof answer);
+    }
+}
+
+static void report_not_shown(const char *path, const struct made *made, const char *why)
+{
+    uint64_t first = made->lines[0].sequence;
+    if (made->count == 1)
+        report(path, "call %" PRIu64 " was made, but its answer could not be shown: %s; 'crz log %s --last 1' shows it",
+            first, why, path);
+    else
+        report(path,
+            "calls %" PRIu64 " to %" PRIu64 " were made, but not all of their answers could be shown: %s; 'crz log %s "
+            "--last %zu' shows them",
+            first, first + made->count - 1, why, path, made->count);
+}
+
+/* Shows the answers of what was made, which is durable by then. */
+static enum status show_answers(struct store *store, const struct made *made, enum status status, int json)
+{
     if (status != STATUS_ACCEPTED && status != STATUS_REFUSED)
         return status;
-    show_made(&made, json);
+    show_made(made, json);
     if (shown())
         return status;
-    report(store_path(store),
-        "call %" PRIu64 " was made, but its answer could not be shown: %s; 'crz log %s --last 1' shows it",
-        made.line.sequence, strerror(errno), store_path(store));
+    report_not_shown(store_path(store), made, strerror(errno));
     return STATUS_NOT_SHOWN;
 }
 
 enum status command_call(const struct request *request)
 {
+    static struct made made;
     const char *path = request->words[0];
     uint8_t call[CRZ_CALL_LENGTH];
     char message[LONGEST_MESSAGE];
@@ -66,7 +108,7 @@ enum status command_call(const struct request *request)
     struct store *store = store_open(path, STORE_WRITE, option_wait(request));
     enum status status = STATUS_NOTHING_DONE;
     if (store != NULL)
-        status = make_call(store, call, &expect, option_given(request, OPTION_JSON));
+        status = show_answers(store, &made, zone_call(store, call, &expect, &made), option_given(request, OPTION_JSON));
     store_close(store);
     if (status == STATUS_NOTHING_DONE)
         report(path, "the call was not made");
@@ -77,7 +119,7 @@ enum status command_call(const struct request *request)
 
 /* How far a script has been played. */
 struct played {
-    size_t made, accepted, refused;
+    size_t made, accepted, refused, tables;
 };
 
 /* What a script is played with. */
@@ -85,37 +127,69 @@ struct playing {
     struct store *store;
     const struct script *script;
     struct expect expect;
-    int json, stop;
+    int json, stop, table;
     struct played played;
 };
 
-static void count_made(struct playing *p, enum status status)
+/* Calls of the next commit. */
+static size_t next_count(const struct playing *p)
 {
-    p->played.made++;
-    p->expect.given = 0; /* it is asked of the first call alone */
-    ++*(status == STATUS_REFUSED ? &p->played.refused : &p->played.accepted);
+    size_t left = p->script->count - p->played.made, most = p->table ? CRZ_TABLE_COUNT : 1;
+    return left < most ? left : most;
 }
 
-/* The call in words comes out first: where nothing can be shown, nothing is made. */
-static enum status play_call(struct playing *p)
+static void count_made(struct playing *p, const struct made *made)
 {
-    const uint8_t *call = p->script->calls[p->played.made];
-    if (!p->json) {
-        fputs("> ", stdout);
-        print_call(call);
-        putchar('\n');
-    }
-    if (!shown()) {
-        report(store_path(p->store), "standard output cannot be written: %s", strerror(errno));
+    p->played.made += made->count;
+    p->played.tables += p->table ? 1 : 0;
+    p->expect.given = 0; /* it is asked of the first commit alone */
+    for (size_t i = 0; i < made->count; i++)
+        ++*(made->lines[i].number == CRZ_NUMBER_ACCEPTED ? &p->played.accepted : &p->played.refused);
+}
+
+/* Which calls of the script are made as one table: their words come with their answers. */
+static void print_next_table(const struct playing *p)
+{
+    size_t first = p->played.made + 1, last = p->played.made + next_count(p);
+    printf("call%s %s", first == last ? "" : "s", grouped(first).text);
+    if (first != last)
+        printf(" to %s", grouped(last).text);
+    printf(" of %s, as one table%s\n", grouped(p->script->count).text,
+        p->stop ? " that ends with the first refused call" : "");
+}
+
+/* What is made next comes out first: where nothing can be shown, nothing is made. */
+static int print_next(const struct playing *p)
+{
+    if (!p->json && p->table)
+        print_next_table(p);
+    else if (!p->json)
+        print_script_call(p->script->calls[p->played.made]);
+    if (shown())
+        return 0;
+    return report(store_path(p->store), "standard output cannot be written: %s", strerror(errno));
+}
+
+/* Makes the next call, or the next table, in one commit. */
+static enum status make_next(const struct playing *p, struct made *made)
+{
+    const uint8_t *calls = p->script->calls[p->played.made];
+    struct table table = {calls, next_count(p), p->stop};
+    return p->table ? zone_table(p->store, &table, &p->expect, made) : zone_call(p->store, calls, &p->expect, made);
+}
+
+static enum status play_next(struct playing *p)
+{
+    static struct made made;
+    if (print_next(p) != 0)
         return STATUS_NOTHING_DONE;
-    }
-    enum status status = make_call(p->store, call, &p->expect, p->json);
+    enum status status = make_next(p, &made);
     if (status != STATUS_NOTHING_DONE)
-        count_made(p, status);
-    return status;
+        count_made(p, &made);
+    return show_answers(p->store, &made, status, p->json);
 }
 
-/* Whether the script goes on after a call that ended with `status`. */
+/* Whether the script goes on after a commit that ended with `status`. */
 static int goes_on(const struct playing *p, enum status status)
 {
     return p->played.made < p->script->count && status <= (p->stop ? STATUS_ACCEPTED : STATUS_REFUSED);
@@ -127,7 +201,7 @@ static enum status play_calls(struct playing *p)
     struct progress progress = progress_start(isatty(STDOUT_FILENO) ? NULL : "play", p->script->count);
     enum status status = STATUS_ACCEPTED;
     while (goes_on(p, status) && !signals_came()) {
-        status = play_call(p);
+        status = play_next(p);
         progress_show(&progress, p->played.made);
     }
     progress_clear();
@@ -143,8 +217,10 @@ static void show_played(const struct playing *p)
     const struct played *n = &p->played;
     size_t not_made = p->script->count - n->made;
     if (!p->json) {
-        printf("%s call%s: %s accepted, %s refused", grouped(n->made).text, plural(n->made), grouped(n->accepted).text,
-            grouped(n->refused).text);
+        printf("%s call%s", grouped(n->made).text, plural(n->made));
+        if (p->table)
+            printf(" in %s table%s", grouped(n->tables).text, plural(n->tables));
+        printf(": %s accepted, %s refused", grouped(n->accepted).text, grouped(n->refused).text);
         if (not_made > 0)
             printf("; stopped, %s not made", grouped(not_made).text);
         putchar('\n');
@@ -152,6 +228,7 @@ static void show_played(const struct playing *p)
     }
     json_open("played");
     json_number("calls", n->made);
+    json_number("tables", n->tables);
     json_number("accepted", n->accepted);
     json_number("refused", n->refused);
     json_number("not_made", not_made);
@@ -177,7 +254,8 @@ static enum status play_script(const struct request *request, const struct scrip
     struct playing p = {.script = script,
         .expect = option_expect(request),
         .json = option_given(request, OPTION_JSON),
-        .stop = option_given(request, OPTION_STOP)};
+        .stop = option_given(request, OPTION_STOP),
+        .table = option_given(request, OPTION_TABLE)};
     signals_catch();
     p.store = store_open(request->words[0], STORE_WRITE, option_wait(request));
     if (p.store == NULL) {
@@ -339,21 +417,27 @@ static int is_listed(const struct listing *l, const struct line *line)
     return found;
 }
 
-static int show_line(void *context, const struct line *line)
+static void show_line(const struct listing *l, const struct line *line, const struct span *table)
 {
-    struct listing *l = context;
     if (line->sequence < l->first || !is_listed(l, line))
-        return 0;
+        return;
     if (l->json)
-        json_line(line, NULL);
+        json_line(line, table, NULL);
     else
-        print_line(line);
+        print_line(line, table);
+}
+
+static int show_lines(void *context, const struct line *lines, size_t count)
+{
+    struct span span;
+    const struct span *table = span_of(lines, count, &span);
+    for (size_t i = 0; i < count; i++)
+        show_line(context, &lines[i], table);
     return ferror(stdout) ? 1 : 0;
 }
 
-static int note_line(void *context, const struct line *line)
+static int note_line(struct listing *l, const struct line *line)
 {
-    struct listing *l = context;
     if (!is_listed(l, line))
         return 0;
     if (l->count == l->room) {
@@ -368,6 +452,14 @@ static int note_line(void *context, const struct line *line)
     return 0;
 }
 
+static int note_lines(void *context, const struct line *lines, size_t count)
+{
+    int bad = 0;
+    for (size_t i = 0; i < count && !bad; i++)
+        bad = note_line(context, &lines[i]);
+    return bad;
+}
+
 /* Where the last lines begin. Lines without an account or a lot to look for need no search. */
 static int find_first(struct store *store, struct listing *l, uint64_t end, uint64_t last)
 {
@@ -375,7 +467,7 @@ static int find_first(struct store *store, struct listing *l, uint64_t end, uint
         l->first = last > end ? 0 : end + 1 - last;
         return 0;
     }
-    int bad = store_walk(store, 0, end, note_line, l);
+    int bad = store_walk(store, 0, end, note_lines, l);
     l->first = last == 0 ? end + 1 : l->count > last ? l->sequences[l->count - last] : 0;
     free(l->sequences);
     return bad;
@@ -403,7 +495,9 @@ static int list_lines(struct store *store, const struct request *request, uint64
         .json = option_given(request, OPTION_JSON)};
     if (option_given(request, OPTION_LAST) && find_first(store, &l, end, request->numbers[OPTION_LAST]) != 0)
         return -1;
-    return store_walk(store, l.first, end, show_line, &l) < 0 ? -1 : 0;
+    /* the first line may be of a table that begins before it */
+    uint64_t from = l.first < CRZ_TABLE_COUNT ? 0 : l.first - (CRZ_TABLE_COUNT - 1);
+    return store_walk(store, from, end, show_lines, &l) < 0 ? -1 : 0;
 }
 
 /* The head is of the whole journal. */

@@ -28,12 +28,15 @@ static const struct help helps[] = {
         "1234567.\n"
         "The kinds, with their fields, who may make them and what they do:\n"},
     {"play",
-        "crz play FILE SCRIPT  [--expect N] [--stop] [--wait SECONDS] [--json]\n"
+        "crz play FILE SCRIPT  [--table] [--expect N] [--stop] [--wait SECONDS] [--json]\n"
         "\n"
         "Makes the calls of a script, one a line, each durable before its answer is shown. # begins a remark; the\n"
         "script - is standard input. Every bad line is named first, and then no call is made.\n"
-        "  --expect N       the first call only if N is the journal's last sequence number\n"
-        "  --stop           end at the first refused call\n"
+        "  --table          make them in tables of up to 32 calls: a kill leaves all calls of a table or none, nobody\n"
+        "                   else calls between them, and their answers are shown when all are durable. A refused call\n"
+        "                   does not end its table. A long script takes less time this way\n"
+        "  --expect N       the first call, or table, only if N is the journal's last sequence number\n"
+        "  --stop           end at the first refused call; a table then ends with it\n"
         "  --wait SECONDS   how long to wait for another program, 10 if not given\n"
         "  --json           an object for each call, and one for the script\n"},
     {"show", "crz show FILE  [--json] [--wait SECONDS]\n"
@@ -43,7 +46,8 @@ static const struct help helps[] = {
              "of a lot that is first paid also what is left to invoice and what the next confirmation pays.\n"},
     {"log", "crz log FILE  [--account N] [--lot N] [--last N] [--head] [--json] [--wait SECONDS]\n"
             "\n"
-            "The journal in words, from its start.\n"
+            "The journal in words, from its start. A call that was made in a table says which: 'table 65 to 96' has\n"
+            "the calls with these sequence numbers.\n"
             "  --account N      lines that name the account, in their call or their answer\n"
             "  --lot N          lines that name the lot\n"
             "  --last N         the last N of these lines\n"
@@ -51,9 +55,9 @@ static const struct help helps[] = {
     {"verify",
         "crz verify FILE  [--wait SECONDS]\n"
         "\n"
-        "Checks the hash of every line, makes every call of the journal again and compares number, answer and the\n"
-        "final image; then holds the history of a zone that started fresh against the image. Names the first bad\n"
-        "line.\n"},
+        "Checks the hash of every line, makes every call of the journal again, those of a table as a table, compares\n"
+        "number, answer and the final image; then holds the history of a zone that started fresh against the image.\n"
+        "Names the first bad line.\n"},
     {"statement",
         "crz statement FILE ACCOUNT  [--json] [--wait SECONDS]\n"
         "\n"

@@ -75,7 +75,7 @@ void hash_words(const struct hash *hash, char words[HASH_DIGITS + 1])
         snprintf(words + 2 * i, 3, "%02x", hash->bytes[i]);
 }
 
-static void put_time(struct line *line)
+static void put_time(char time[TIME_LENGTH + 1])
 {
     struct timespec now = {0};
     struct tm utc;
@@ -83,13 +83,13 @@ static void put_time(struct line *line)
     clock_gettime(CLOCK_REALTIME, &now);
     gmtime_r(&now.tv_sec, &utc);
     strftime(seconds, sizeof seconds, "%Y-%m-%dT%H:%M:%S", &utc);
-    snprintf(line->time, sizeof line->time, "%.19s.%03dZ", seconds, (int)(now.tv_nsec / 1000000));
+    snprintf(time, TIME_LENGTH + 1, "%.19s.%03dZ", seconds, (int)(now.tv_nsec / 1000000));
 }
 
 void line_start(struct line *line, const uint8_t *imported)
 {
     memset(line, 0, sizeof *line);
-    put_time(line);
+    put_time(line->time);
     strcpy(line->entry, imported == NULL ? ENTRY_FRESH : ENTRY_IMPORT);
     if (imported == NULL)
         return;
@@ -106,15 +106,39 @@ static size_t filled_length(uint32_t number, const uint8_t *answer)
     return CRZ_ANSWER_ENTRIES + (size_t)CRZ_ENTRY_LENGTH * crz_get_answer(answer).count;
 }
 
-void line_call(struct line *line, uint64_t sequence, const uint8_t *call, uint32_t number, const uint8_t *answer)
+/* All of a call's line but its time and entry. */
+static void put_call(struct line *line, uint64_t sequence, const uint8_t *call, uint32_t number, const uint8_t *answer)
 {
     memset(line, 0, sizeof *line);
     line->sequence = sequence;
-    put_time(line);
-    strcpy(line->entry, ENTRY_CALL);
     line->call_length = CRZ_CALL_LENGTH;
     memcpy(line->call, call, CRZ_CALL_LENGTH);
     line->number = number;
     line->answer_length = filled_length(number, answer);
     memcpy(line->answer, answer, CRZ_ANSWER_LENGTH);
+}
+
+void line_call(struct line *line, uint64_t sequence, const uint8_t *call, uint32_t number, const uint8_t *answer)
+{
+    put_call(line, sequence, call, number, answer);
+    put_time(line->time);
+    strcpy(line->entry, ENTRY_CALL);
+}
+
+/* What a call of a table returned by itself stands in its answer alone. */
+void line_table(struct line *lines, uint64_t sequence, const uint8_t *calls, const uint8_t *answers, size_t count)
+{
+    char now[TIME_LENGTH + 1];
+    put_time(now);
+    for (size_t i = 0; i < count; i++) {
+        const uint8_t *answer = answers + crz_answer_offset(i);
+        put_call(&lines[i], sequence + i, calls + crz_call_offset(i), answer[CRZ_ANSWER_NUMBER], answer);
+        strcpy(lines[i].time, now);
+        strcpy(lines[i].entry, ENTRY_TABLE);
+    }
+}
+
+int line_in_table(const struct line *line)
+{
+    return strcmp(line->entry, ENTRY_TABLE) == 0;
 }

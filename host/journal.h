@@ -12,6 +12,9 @@
  *
  * The last line of a commit has the SHA-256 of the image after it as its image hash, lines before it in the same
  * commit have none. So the last hash of a journal fixes every byte of the journal and of the image.
+ *
+ * A call that was made by itself is a commit of one line. The calls of a table are a commit of as many lines, each with
+ * ENTRY_TABLE and its own call record, number and answer, and all with one time: a table ends with its image hash.
  */
 #ifndef JOURNAL_H
 #define JOURNAL_H
@@ -20,6 +23,7 @@
 
 #define ENTRY_FRESH "crz_fresh"
 #define ENTRY_CALL "crz_call"
+#define ENTRY_TABLE "crz_table"
 #define ENTRY_IMPORT "import" /* a start whose further buffer is the image */
 
 enum { HASH_LENGTH = 32, TIME_LENGTH = 24, ENTRY_LENGTH = 31, FURTHER_LENGTH = 8192, HASH_DIGITS = 2 * HASH_LENGTH };
@@ -50,6 +54,16 @@ void line_start(struct line *line, const uint8_t *imported);
 
 /* The line of a call made now through ENTRY_CALL. */
 void line_call(struct line *line, uint64_t sequence, const uint8_t *call, uint32_t number, const uint8_t *answer);
+
+/* The lines of `count` calls made now through ENTRY_TABLE, the first of them with that sequence number. */
+void line_table(struct line *lines, uint64_t sequence, const uint8_t *calls, const uint8_t *answers, size_t count);
+
+int line_in_table(const struct line *line);
+
+/* The sequence numbers of a table's first and last call. */
+struct span {
+    uint64_t first, last;
+};
 
 /* Each returns 0, or -1 after a message. */
 int hash_image(const uint8_t image[CRZ_IMAGE_LENGTH], struct hash *hash);

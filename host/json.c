@@ -152,13 +152,22 @@ static void put_answer(const struct line *line)
     put_entries(line->answer, accepted ? head.count : 0);
 }
 
-void json_line(const struct line *line, const uint8_t *found)
+static void put_table(const struct span *table)
+{
+    if (table == NULL)
+        json_words("table", NULL);
+    else
+        printf(",\"table\":{\"first\":%" PRIu64 ",\"last\":%" PRIu64 "}", table->first, table->last);
+}
+
+void json_line(const struct line *line, const struct span *table, const uint8_t *found)
 {
     json_open(line->sequence == 0 ? "start" : "call");
     json_number("sequence", line->sequence);
     json_words("time", line->time);
     json_words("through", line->entry);
     if (line->sequence > 0) {
+        put_table(table);
         put_call(line->call);
         json_number("number", line->number);
         json_flag("accepted", line->number == CRZ_NUMBER_ACCEPTED);

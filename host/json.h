@@ -17,8 +17,11 @@ void json_close(void);
 void json_if(int is_there, const char *name, uint64_t number);
 void json_signed_if(int is_there, const char *name, int64_t number);
 
-/* A line of the journal; `found` is the image that a call found, NULL where it is not known. */
-void json_line(const struct line *line, const uint8_t *found);
+/*
+ * A line of the journal; `table` is the one that it belongs to, NULL for a call by itself, and `found` the image that
+ * the call found, NULL where it is not known.
+ */
+void json_line(const struct line *line, const struct span *table, const uint8_t *found);
 
 void json_zone(const uint8_t image[CRZ_IMAGE_LENGTH]);
 

@@ -29,7 +29,7 @@ struct command {
 static const struct command commands[] = {
     {"new", command_new, 0, 1, 1, "FILE", 1},
     {"call", command_call, READING | OPTION(EXPECT), 2, 2 + 2 * FIELDS, "FILE KIND FIELD N ..", 1},
-    {"play", command_play, READING | OPTION(EXPECT) | OPTION(STOP), 2, 2, "FILE SCRIPT", 1},
+    {"play", command_play, READING | OPTION(EXPECT) | OPTION(STOP) | OPTION(TABLE), 2, 2, "FILE SCRIPT", 1},
     {"show", command_show, READING, 1, 1, "FILE", 0},
     {"log", command_log, READING | OPTION(ACCOUNT) | OPTION(LOT) | OPTION(LAST) | OPTION(HEAD), 1, 1, "FILE", 0},
     {"verify", command_verify, OPTION(WAIT), 1, 1, "FILE", 0},

@@ -13,6 +13,7 @@ struct option_words {
 static const struct option_words options[OPTIONS] = {
     [OPTION_JSON] = {"--json", 0, 0},
     [OPTION_STOP] = {"--stop", 0, 0},
+    [OPTION_TABLE] = {"--table", 0, 0},
     [OPTION_HEAD] = {"--head", 0, 0},
     [OPTION_WAIT] = {"--wait", 0, 86400},
     [OPTION_EXPECT] = {"--expect", 0, INT64_MAX},

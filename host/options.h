@@ -7,6 +7,7 @@
 enum option {
     OPTION_JSON,
     OPTION_STOP,
+    OPTION_TABLE,
     OPTION_HEAD,
     OPTION_WAIT,
     OPTION_EXPECT,

@@ -112,20 +112,32 @@ static void print_start(const struct line *line)
         puts("start with a fresh zone");
 }
 
-void print_line(const struct line *line)
+static void print_table(const struct span *table)
 {
+    if (table == NULL)
+        return;
+    printf(", table %" PRIu64, table->first);
+    if (table->last != table->first)
+        printf(" to %" PRIu64, table->last);
+}
+
+void print_line(const struct line *line, const struct span *table)
+{
+    int accepted = line->number == CRZ_NUMBER_ACCEPTED;
     printf("%" PRIu64 "  %s  ", line->sequence, line->time);
     if (line->sequence == 0) {
         print_start(line);
         return;
     }
     print_call(line->call);
-    if (line->number == CRZ_NUMBER_ACCEPTED) {
-        printf("\n    accepted");
+    printf("\n    %s", accepted ? "accepted" : "refused");
+    if (!accepted)
+        printf(" %" PRIu32, line->number);
+    print_table(table);
+    if (accepted)
         print_after(line->answer);
-    } else {
-        printf("\n    refused %" PRIu32 ": %s\n", line->number, reason_of(line->number));
-    }
+    else
+        printf(": %s\n", reason_of(line->number));
 }
 
 /* ── Zones ─────────────────────────────────────────────────────────────────────────────────────── */

@@ -26,8 +26,8 @@ int invoiced_lot(const struct line *line, const uint8_t *found, struct crz_recei
 /* A call that was made: its number and sequence, and its entries; `found` is the image that it found. */
 void print_made(const struct line *line, const uint8_t found[CRZ_IMAGE_LENGTH]);
 
-/* A line of the journal. */
-void print_line(const struct line *line);
+/* A line of the journal; `table` is the one that it belongs to, NULL for a call by itself. */
+void print_line(const struct line *line, const struct span *table);
 
 void print_zone(const uint8_t image[CRZ_IMAGE_LENGTH]);
 

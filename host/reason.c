@@ -35,6 +35,7 @@ static const char *const reasons[] = {
     [CRZ_NUMBER_NO_MONEY] = "not enough free money",
     [CRZ_NUMBER_OVER_LIMIT] = "the zone's total would pass its limit",
     [CRZ_NUMBER_OVER_INVOICE] = "the invoice is above what is left to invoice",
+    [CRZ_NUMBER_BAD_TABLE] = "the table of calls does not fit its buffers",
 };
 
 const char *reason_of(uint32_t number)

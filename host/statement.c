@@ -109,19 +109,24 @@ static void add_payment(struct statement *s, const struct line *line, const stru
     show_movement(s, &m);
 }
 
-static int add_line(void *context, const struct line *line)
+static void add_line(struct statement *s, const struct line *line)
 {
-    struct statement *s = context;
     struct crz_call_fields call = crz_get_call(line->call);
     if (line->sequence == 0 && line->has_further && line->further_length == CRZ_IMAGE_LENGTH) {
         struct crz_account_fields had = crz_get_account(line->further, s->account);
         s->at_start = had.free + had.frozen;
     }
     if (line->sequence == 0 || line->number != CRZ_NUMBER_ACCEPTED)
-        return 0;
+        return;
     if ((call.kind == CRZ_KIND_PAY_IN || call.kind == CRZ_KIND_TAKE_OUT) && call.account == s->account)
         add_payment(s, line, &call);
     add_transfers(s, line);
+}
+
+static int add_lines(void *context, const struct line *lines, size_t count)
+{
+    for (size_t i = 0; i < count; i++)
+        add_line(context, &lines[i]);
     return 0;
 }
 
@@ -240,7 +245,7 @@ enum status print_statement(struct store *store, const struct newest *newest, ui
     struct crz_account_fields has = crz_get_account(newest->kept.image, account);
     if (!json)
         print_head(&s, newest);
-    if (store_walk(store, 0, newest->last.sequence, add_line, &s) != 0)
+    if (store_walk(store, 0, newest->last.sequence, add_lines, &s) != 0)
         return STATUS_NOTHING_DONE;
     show_all_held(&s);
     show_all_to_invoice(&s);

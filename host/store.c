@@ -23,7 +23,7 @@
 #include "report.h"
 #include "signals.h"
 
-enum { BATCH = 64 };
+enum { BATCH = 2 * CRZ_TABLE_COUNT }; /* lines read at once */
 
 enum statement { BEGIN, CANCEL, COMMIT, PAGES, READ_ZONE, READ_NEWEST, READ_LINES, ADD_LINE, PUT_ZONE, STATEMENTS };
 
@@ -35,7 +35,7 @@ static const char *const sql[STATEMENTS] = {
     [COMMIT] = "COMMIT",
     [PAGES] = "PRAGMA page_count",
     [READ_ZONE] = "SELECT image, last_hash FROM zone WHERE place = 1",
-    [READ_NEWEST] = "SELECT " COLUMNS " FROM journal ORDER BY sequence DESC LIMIT 2",
+    [READ_NEWEST] = "SELECT " COLUMNS " FROM journal ORDER BY sequence DESC LIMIT ?1",
     [READ_LINES] = "SELECT " COLUMNS " FROM journal WHERE sequence BETWEEN ?1 AND ?2 ORDER BY sequence LIMIT ?3",
     [ADD_LINE] = "INSERT INTO journal (" COLUMNS ") VALUES (?, ?, ?, ?, ?, ?, ?, ?, ?)",
     [PUT_ZONE] = "UPDATE zone SET image = ?1, last_hash = ?2 WHERE place = 1",
@@ -62,7 +62,8 @@ struct store {
     int told;              /* that a wait goes on */
     dev_t device;
     ino_t file;
-    struct hash last_hash; /* as it was last read */
+    struct hash last_hash;                 /* as it was last read */
+    struct line read[CRZ_TABLE_COUNT + 1]; /* the lines of a commit and the one before them, read again */
 };
 
 const char *store_path(const struct store *store)
@@ -325,10 +326,20 @@ static int read_lines(struct store *store, sqlite3_stmt *rows, struct line *line
     return bad || code == SQLITE_ROW || code == SQLITE_DONE ? bad : failed_at(store, code);
 }
 
+/* The newest lines, `most` at most, the last one first; NULL after a message. */
+static sqlite3_stmt *newest_rows(struct store *store, size_t most)
+{
+    sqlite3_stmt *rows = statement(store, READ_NEWEST);
+    if (rows == NULL || sqlite3_bind_int64(rows, 1, (sqlite3_int64)most) == SQLITE_OK)
+        return rows;
+    failed(store);
+    return NULL;
+}
+
 static int read_newest(struct store *store, struct newest *newest)
 {
     struct line lines[2];
-    sqlite3_stmt *rows = statement(store, READ_NEWEST);
+    sqlite3_stmt *rows = newest_rows(store, 2);
     if (rows == NULL || read_zone(store, &newest->kept) != 0)
         return -1;
     int count;
@@ -581,14 +592,42 @@ int store_read(struct store *store, struct newest *newest)
     return bad;
 }
 
-/* Read again before the commit: a page that is damaged inside could have put one line over another. */
-static int stands(struct store *store, const uint8_t *image, const struct line *last, const struct hash *before)
+static int same_bytes(const uint8_t *a, size_t a_length, const uint8_t *b, size_t b_length)
 {
-    struct newest newest;
-    if (read_newest(store, &newest) != 0)
+    return a_length == b_length && memcmp(a, b, a_length) == 0;
+}
+
+static int same_line(const struct line *a, const struct line *b)
+{
+    return a->sequence == b->sequence && strcmp(a->time, b->time) == 0 && strcmp(a->entry, b->entry) == 0
+           && same_bytes(a->call, a->call_length, b->call, b->call_length) && a->number == b->number
+           && same_bytes(a->answer, a->answer_length, b->answer, b->answer_length) && a->has_further == b->has_further
+           && same_bytes(a->further, a->further_length, b->further, b->further_length)
+           && a->has_image_hash == b->has_image_hash && hash_same(&a->image_hash, &b->image_hash)
+           && hash_same(&a->hash, &b->hash);
+}
+
+/* Whether the newest lines, the last one first, are those of the commit. */
+static int same_lines(const struct line *newest, const struct line *lines, size_t count)
+{
+    int same = 1;
+    for (size_t i = 0; i < count && same; i++)
+        same = same_line(&newest[i], &lines[count - 1 - i]);
+    return same;
+}
+
+/* Read again before the commit: a page that is damaged inside could have put one line over another. */
+static int stands(struct store *store, const uint8_t *image, const struct line *lines, size_t count)
+{
+    struct kept kept;
+    struct line *read = store->read;
+    int found;
+    sqlite3_stmt *rows = newest_rows(store, count + 1);
+    if (rows == NULL || read_zone(store, &kept) != 0 || read_lines(store, rows, read, (int)count + 1, &found) != 0)
         return -1;
-    if (memcmp(newest.kept.image, image, CRZ_IMAGE_LENGTH) == 0 && hash_same(&newest.kept.last_hash, &last->hash)
-        && hash_same(&newest.last.hash, &last->hash) && hash_same(&newest.before, before))
+    if (memcmp(kept.image, image, CRZ_IMAGE_LENGTH) == 0 && hash_same(&kept.last_hash, &lines[count - 1].hash)
+        && (size_t)found == count + 1 && same_lines(read, lines, count)
+        && hash_same(&read[count].hash, &store->last_hash))
         return 0;
     return damaged(store, "what was written is not what stands there");
 }
@@ -606,12 +645,10 @@ static enum commit after_error(struct store *store, const struct hash *hash)
 enum commit store_commit(
     struct store *store, const uint8_t image[CRZ_IMAGE_LENGTH], const struct line *lines, size_t count)
 {
-    const struct hash before = count > 1 ? lines[count - 2].hash : store->last_hash;
     int bad = 0;
     for (size_t i = 0; i < count && !bad; i++)
         bad = add_line(store, &lines[i]);
-    bad = bad || put_zone(store, image, &lines[count - 1].hash) != 0
-          || stands(store, image, &lines[count - 1], &before) != 0;
+    bad = bad || put_zone(store, image, &lines[count - 1].hash) != 0 || stands(store, image, lines, count) != 0;
     if (bad) {
         store_cancel(store);
         return COMMIT_NOT_DONE;
@@ -637,26 +674,43 @@ static int read_batch(struct store *store, uint64_t first, uint64_t last, struct
     return read_lines(store, rows, lines, BATCH, count);
 }
 
-static int visit_batch(const struct line *lines, int count, visit_line *visit, void *context)
+/* Lines of the first commit: up to its image hash, or all of them where none has one. */
+static int commit_length(const struct line *lines, int count)
+{
+    int length = 1;
+    while (length < count && !lines[length - 1].has_image_hash)
+        length++;
+    return length;
+}
+
+/* Visits the commits of a batch. One that may go on behind it is left for the next batch, which begins with it. */
+static int visit_batch(const struct line *lines, int count, int *visited, visit_commit *visit, void *context)
 {
     int result = 0;
-    for (int i = 0; i < count && result == 0; i++)
-        result = visit(context, &lines[i]);
+    *visited = 0;
+    while (*visited < count && result == 0) {
+        int length = commit_length(lines + *visited, count - *visited);
+        int ends = *visited + length < count || count < BATCH || lines[count - 1].has_image_hash;
+        if (!ends && *visited > 0)
+            return 0;
+        result = visit(context, lines + *visited, (size_t)length);
+        *visited += length;
+    }
     return result;
 }
 
-int store_walk(struct store *store, uint64_t first, uint64_t last, visit_line *visit, void *context)
+int store_walk(struct store *store, uint64_t first, uint64_t last, visit_commit *visit, void *context)
 {
     struct line *lines = malloc(BATCH * sizeof *lines);
-    int count = BATCH, result = 0;
+    int count = BATCH, visited, result = 0;
     if (lines == NULL)
         return report(store->name, "no memory");
     while (first <= last && count == BATCH && result == 0) {
         int bad = read_batch(store, first, last, lines, &count);
-        result = visit_batch(lines, count, visit, context);
+        result = visit_batch(lines, count, &visited, visit, context);
         result = result == 0 ? bad : result;
-        if (count > 0)
-            first = lines[count - 1].sequence + 1;
+        if (visited > 0)
+            first = lines[visited - 1].sequence + 1;
     }
     free(lines);
     return result;

@@ -44,16 +44,21 @@ void store_cancel(struct store *store);
 /* Reads the newest state, all of one moment. */
 int store_read(struct store *store, struct newest *newest);
 
-/* Makes the image and the lines behind the last one durable, all or nothing; a message where it is not done. */
+/*
+ * Makes the image and the lines behind the last one, CRZ_TABLE_COUNT at most, durable, all or nothing; a message where
+ * it is not done. The newest state was read after store_begin.
+ */
 enum commit store_commit(
     struct store *store, const uint8_t image[CRZ_IMAGE_LENGTH], const struct line *lines, size_t count);
 
 /*
- * Visits the lines from `first` to `last` in order, as far as they are there, until a visit returns another value than
- * 0; returns that value. No lock is held during a visit: lines never change.
+ * Visits the lines from `first` to `last` in order, as far as they are there, those of one commit together, until a
+ * visit returns another value than 0; returns that value. A commit ends with its image hash; where that is missing,
+ * lines come together up to the next one, to the last line, or to as many as are read at once, which is more than a
+ * table has. No lock is held during a visit: lines never change.
  */
-typedef int visit_line(void *context, const struct line *line);
-int store_walk(struct store *store, uint64_t first, uint64_t last, visit_line *visit, void *context);
+typedef int visit_commit(void *context, const struct line *lines, size_t count);
+int store_walk(struct store *store, uint64_t first, uint64_t last, visit_commit *visit, void *context);
 
 /* Judges how the file is laid out, whatever the zone in it. */
 int store_judge(struct store *store);

@@ -16,7 +16,8 @@ struct replay {
     struct hash before;              /* hash of the line before it */
     uint8_t image[CRZ_IMAGE_LENGTH]; /* after that line */
     uint64_t accepted, refused;
-    int from_fresh; /* whether the history table can be held against the image */
+    uint64_t tables, in_tables; /* tables, and the calls in them */
+    int from_fresh;             /* whether the history table can be held against the image */
     struct history history;
     struct finding finding; /* the first strike that was for another account than the bidder */
     uint64_t found_at;
@@ -57,13 +58,9 @@ static void feed(struct replay *replay, const struct line *line)
     replay->found_at = line->sequence;
 }
 
-/* A call made again: number and answer must come out as they stand. */
-static int replay_call(struct replay *replay, const struct line *line)
+/* Of a call made again, number and answer must come out as they stand. */
+static int compare(struct replay *replay, const struct line *line, uint32_t number, const uint8_t *answer)
 {
-    uint8_t answer[CRZ_ANSWER_LENGTH];
-    if (strcmp(line->entry, ENTRY_CALL) != 0)
-        return bad_line(replay, line->sequence, "it went through an entry that this program does not know");
-    uint32_t number = crz_call(replay->image, CRZ_IMAGE_LENGTH, line->call, line->call_length, answer, sizeof answer);
     if (number != line->number)
         return bad_line(replay, line->sequence, "the library returns another number");
     if (memcmp(answer, line->answer, CRZ_ANSWER_LENGTH) != 0)
@@ -74,14 +71,97 @@ static int replay_call(struct replay *replay, const struct line *line)
     return 0;
 }
 
-static int hashes_fit(struct replay *replay, const struct line *line)
+static int replay_call(struct replay *replay, const struct line *line)
 {
+    uint8_t answer[CRZ_ANSWER_LENGTH];
+    uint32_t number = crz_call(replay->image, CRZ_IMAGE_LENGTH, line->call, line->call_length, answer, sizeof answer);
+    return compare(replay, line, number, answer);
+}
+
+static void put_calls(uint8_t *calls, const struct line *lines, size_t count)
+{
+    for (size_t i = 0; i < count; i++)
+        memcpy(calls + crz_call_offset(i), lines[i].call, CRZ_CALL_LENGTH);
+}
+
+/* All calls of the table at once, as they were made. */
+static int replay_table(struct replay *replay, const struct line *lines, size_t count)
+{
+    uint8_t calls[CRZ_TABLE_COUNT * CRZ_CALL_LENGTH] = {0}, answers[CRZ_TABLE_COUNT * CRZ_ANSWER_LENGTH];
+    int bad = 0;
+    put_calls(calls, lines, count);
+    if (crz_table(replay->image, CRZ_IMAGE_LENGTH, calls, crz_call_offset(count), answers, sizeof answers)
+        != CRZ_NUMBER_ACCEPTED)
+        return bad_line(replay, lines[0].sequence, "the library does not take the table that begins with it");
+    for (size_t i = 0; i < count && !bad; i++) {
+        const uint8_t *answer = answers + crz_answer_offset(i);
+        bad = compare(replay, &lines[i], answer[CRZ_ANSWER_NUMBER], answer);
+    }
+    replay->tables++;
+    replay->in_tables += count;
+    return bad;
+}
+
+/* ── Commits ───────────────────────────────────────────────────────────────────────────────────── */
+
+/* A fault of the journal, and the line that it is named by. */
+struct fault {
+    const char *what; /* NULL where there is none */
+    uint64_t sequence;
+};
+
+/* A line of a table: the lines before it are of the same one. */
+static struct fault fault_in_table(const struct line *lines, size_t place)
+{
+    const struct line *line = &lines[place];
+    if (place >= CRZ_TABLE_COUNT)
+        return (struct fault){"its table has more calls than a table can have", line->sequence};
+    if (strcmp(line->time, lines[0].time) != 0)
+        return (struct fault){"it has another time than the table that it stands in", line->sequence};
+    if (line->call_length != CRZ_CALL_LENGTH)
+        return (struct fault){"its call record has another length than those of a table", line->sequence};
+    return (struct fault){NULL, 0};
+}
+
+/* A commit is one line with an image hash, or the lines of a table, of which the last one has it. */
+static struct fault fault_in_commit(const struct line *lines, size_t place)
+{
+    const struct line *line = &lines[place];
+    if (line->sequence != 0 && line_in_table(line))
+        return fault_in_table(lines, place);
+    if (line->sequence != 0 && strcmp(line->entry, ENTRY_CALL) != 0)
+        return (struct fault){"it went through an entry that this program does not know", line->sequence};
+    if (!line->has_image_hash)
+        return (struct fault){"it has no hash of the image", line->sequence};
+    if (place > 0)
+        return (struct fault){"its table ends with it, but it has no hash of the image", line->sequence - 1};
+    return (struct fault){NULL, 0};
+}
+
+/* The next line of a commit, bound to those before it. */
+static struct fault judge_line(struct replay *replay, const struct line *lines, size_t place)
+{
+    const struct line *line = &lines[place];
     struct hash hash;
     if (line->sequence != replay->next)
-        return bad_line(replay, replay->next, "it is missing");
+        return (struct fault){"it is missing", replay->next};
     if (hash_line(&replay->before, line, &hash) != 0)
-        return -1;
-    return hash_same(&hash, &line->hash) ? 0 : bad_line(replay, line->sequence, "it does not fit its hash");
+        return (struct fault){"its hash cannot be made again", line->sequence};
+    if (!hash_same(&hash, &line->hash))
+        return (struct fault){"it does not fit its hash", line->sequence};
+    replay->before = line->hash;
+    replay->next = line->sequence + 1;
+    return fault_in_commit(lines, place);
+}
+
+/* Lines of one commit that have no fault so far. */
+static int replay_lines(struct replay *replay, const struct line *lines, size_t count)
+{
+    if (count == 0)
+        return 0;
+    if (lines[0].sequence == 0)
+        return replay_start(replay, &lines[0]);
+    return line_in_table(&lines[0]) ? replay_table(replay, lines, count) : replay_call(replay, &lines[0]);
 }
 
 static int image_fits(struct replay *replay, const struct line *line)
@@ -94,19 +174,20 @@ static int image_fits(struct replay *replay, const struct line *line)
     return hash_same(&hash, &line->image_hash) ? 0 : bad_line(replay, line->sequence, "the image after it is another");
 }
 
-static int replay_line(void *context, const struct line *line)
+/* The lines before a fault are made again too: one of them may be a bad line, and then it is the first. */
+static int replay_commit(void *context, const struct line *lines, size_t count)
 {
     struct replay *replay = context;
-    if (hashes_fit(replay, line) != 0)
+    struct fault fault = {NULL, 0};
+    size_t good = 0;
+    while (good < count && (fault = judge_line(replay, lines, good)).what == NULL)
+        good++;
+    if (replay_lines(replay, lines, good) != 0)
         return -1;
-    if ((line->sequence == 0 ? replay_start(replay, line) : replay_call(replay, line)) != 0)
-        return -1;
-    if (image_fits(replay, line) != 0)
-        return -1;
-    replay->before = line->hash;
-    replay->next = line->sequence + 1;
-    progress_show(&replay->progress, line->sequence);
-    return 0;
+    if (fault.what != NULL)
+        return bad_line(replay, fault.sequence, fault.what);
+    progress_show(&replay->progress, lines[count - 1].sequence);
+    return image_fits(replay, &lines[count - 1]);
 }
 
 static int end_fits(struct replay *replay, const struct newest *newest)
@@ -149,8 +230,12 @@ static void say_compared(const struct replay *replay)
     hash_words(&replay->before, hash);
     printf("journal: %s line%s, each bound to the one before it; last hash %s\n", grouped(replay->next).text,
         plural(replay->next), hash);
-    printf("replay: %s call%s compared, %s accepted and %s refused; every number, every answer and the image agree\n",
-        grouped(calls).text, plural(calls), grouped(replay->accepted).text, grouped(replay->refused).text);
+    printf("replay: %s call%s compared", grouped(calls).text, plural(calls));
+    if (replay->tables > 0)
+        printf(", %s of them in %s table%s", grouped(replay->in_tables).text, grouped(replay->tables).text,
+            plural(replay->tables));
+    printf(", %s accepted and %s refused; every number, every answer and the image agree\n",
+        grouped(replay->accepted).text, grouped(replay->refused).text);
 }
 
 /* All lines, up to the last one where that could be read; the first bad one is named. */
@@ -158,7 +243,7 @@ static int walk(struct store *store, struct replay *replay, const struct newest 
 {
     uint64_t last = newest == NULL ? INT64_MAX : newest->last.sequence;
     replay->progress = progress_start("verify", newest == NULL ? 0 : last);
-    int bad = store_walk(store, 0, last, replay_line, replay);
+    int bad = store_walk(store, 0, last, replay_commit, replay);
     progress_clear();
     if (bad != 0 && !replay->named)
         bad_line(replay, replay->next, "it cannot be read");

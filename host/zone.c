@@ -79,26 +79,63 @@ static int expected(const char *path, const struct expect *expect, const struct 
     return 0;
 }
 
-/* Makes the call on the image and binds its line to the journal. */
-static int make_line(const struct newest *newest, const uint8_t *call, uint8_t *image, struct line *line)
+/* Keeps others out and reads the newest state. Returns 0, or -1 after a message, and then nobody is kept out. */
+static int begin(struct store *store, const struct expect *expect, struct newest *newest)
 {
-    uint8_t answer[CRZ_ANSWER_LENGTH];
-    uint32_t number = crz_call(image, CRZ_IMAGE_LENGTH, call, CRZ_CALL_LENGTH, answer, sizeof answer);
-    line_call(line, newest->last.sequence + 1, call, number, answer);
-    line->has_image_hash = 1;
-    return hash_image(image, &line->image_hash) == 0 && hash_line(&newest->last.hash, line, &line->hash) == 0 ? 0 : -1;
+    if (store_begin(store) != 0)
+        return -1;
+    if (zone_read(store, newest) == 0 && expected(store_path(store), expect, &newest->last))
+        return 0;
+    store_cancel(store);
+    return -1;
 }
 
-static enum status commit(struct store *store, const uint8_t *image, const struct line *line)
+/* Binds the lines to the journal, each to the one before it and the last one also to the image. */
+static int bind_lines(struct made *made, const struct hash *before, const uint8_t *image)
 {
-    switch (store_commit(store, image, line, 1)) {
-    case COMMIT_DONE: return line->number == CRZ_NUMBER_ACCEPTED ? STATUS_ACCEPTED : STATUS_REFUSED;
+    struct line *last = &made->lines[made->count - 1];
+    last->has_image_hash = 1;
+    int bad = hash_image(image, &last->image_hash);
+    for (size_t i = 0; i < made->count && !bad; i++) {
+        bad = hash_line(before, &made->lines[i], &made->lines[i].hash);
+        before = &made->lines[i].hash;
+    }
+    return bad;
+}
+
+static int any_refused(const struct made *made)
+{
+    int refused = 0;
+    for (size_t i = 0; i < made->count; i++)
+        refused |= made->lines[i].number != CRZ_NUMBER_ACCEPTED;
+    return refused;
+}
+
+static void report_unsure(const char *path, const struct made *made)
+{
+    uint64_t first = made->lines[0].sequence;
+    if (made->count == 1)
+        report(path, "the disk failed while call %" PRIu64 " was kept; 'crz log %s --last 1' shows whether it was made",
+            first, path);
+    else
+        report(path,
+            "the disk failed while calls %" PRIu64 " to %" PRIu64 " were kept, all or none of them; 'crz log %s --last "
+            "%zu' shows whether they were made",
+            first, first + made->count - 1, path, made->count);
+}
+
+/* Commits what was made on the state that was read. */
+static enum status keep(struct store *store, const struct newest *newest, const uint8_t *image, struct made *made)
+{
+    memcpy(made->found, newest->kept.image, sizeof made->found);
+    if (bind_lines(made, &newest->last.hash, image) != 0) {
+        store_cancel(store);
+        return STATUS_NOTHING_DONE;
+    }
+    switch (store_commit(store, image, made->lines, made->count)) {
+    case COMMIT_DONE: return any_refused(made) ? STATUS_REFUSED : STATUS_ACCEPTED;
     case COMMIT_NOT_DONE: return STATUS_NOTHING_DONE;
-    default:
-        report(store_path(store),
-            "the disk failed while call %" PRIu64 " was kept; 'crz log %s --last 1' shows whether it was made",
-            line->sequence, store_path(store));
-        return STATUS_NOT_SHOWN;
+    default: report_unsure(store_path(store), made); return STATUS_NOT_SHOWN;
     }
 }
 
@@ -106,17 +143,70 @@ enum status zone_call(
     struct store *store, const uint8_t call[CRZ_CALL_LENGTH], const struct expect *expect, struct made *made)
 {
     struct newest newest;
-    uint8_t image[CRZ_IMAGE_LENGTH];
-    if (store_begin(store) != 0)
+    uint8_t image[CRZ_IMAGE_LENGTH], answer[CRZ_ANSWER_LENGTH];
+    if (begin(store, expect, &newest) != 0)
         return STATUS_NOTHING_DONE;
-    if (zone_read(store, &newest) != 0 || !expected(store_path(store), expect, &newest.last)) {
+    memcpy(image, newest.kept.image, sizeof image);
+    uint32_t number = crz_call(image, sizeof image, call, CRZ_CALL_LENGTH, answer, sizeof answer);
+    line_call(&made->lines[0], newest.last.sequence + 1, call, number, answer);
+    made->count = 1;
+    return keep(store, &newest, image, made);
+}
+
+/* ── Tables ────────────────────────────────────────────────────────────────────────────────────── */
+
+/* The answers of a table's calls. */
+struct answers {
+    uint8_t bytes[CRZ_TABLE_COUNT * CRZ_ANSWER_LENGTH];
+};
+
+static int make_table(uint8_t *image, const uint8_t *calls, size_t count, struct answers *answers)
+{
+    uint32_t number =
+        crz_table(image, CRZ_IMAGE_LENGTH, calls, crz_call_offset(count), answers->bytes, sizeof answers->bytes);
+    return number == CRZ_NUMBER_ACCEPTED
+               ? 0
+               : report(NULL, "the library returns %" PRIu32 " to a table of %zu calls", number, count);
+}
+
+/* Calls up to the first refused one and with it; all of them where none is. */
+static size_t up_to_refused(const struct answers *answers, size_t count)
+{
+    size_t length = 1;
+    while (length < count && answers->bytes[crz_answer_offset(length - 1) + CRZ_ANSWER_NUMBER] == CRZ_NUMBER_ACCEPTED)
+        length++;
+    return length;
+}
+
+/*
+ * Makes the table on the image. One that is to end with its first refused call is made on a copy before that: which
+ * call it is, the answers tell.
+ */
+static int make_calls(const struct table *table, uint8_t *image, struct answers *answers, size_t *count)
+{
+    uint8_t copy[CRZ_IMAGE_LENGTH];
+    *count = table->count;
+    if (table->stop) {
+        memcpy(copy, image, sizeof copy);
+        if (make_table(copy, table->calls, *count, answers) != 0)
+            return -1;
+        *count = up_to_refused(answers, *count);
+    }
+    return make_table(image, table->calls, *count, answers);
+}
+
+enum status zone_table(struct store *store, const struct table *table, const struct expect *expect, struct made *made)
+{
+    struct newest newest;
+    uint8_t image[CRZ_IMAGE_LENGTH];
+    struct answers answers;
+    if (begin(store, expect, &newest) != 0)
+        return STATUS_NOTHING_DONE;
+    memcpy(image, newest.kept.image, sizeof image);
+    if (make_calls(table, image, &answers, &made->count) != 0) {
         store_cancel(store);
         return STATUS_NOTHING_DONE;
     }
-    memcpy(made->found, newest.kept.image, sizeof made->found);
-    memcpy(image, newest.kept.image, sizeof image);
-    if (make_line(&newest, call, image, &made->line) == 0)
-        return commit(store, image, &made->line);
-    store_cancel(store);
-    return STATUS_NOTHING_DONE;
+    line_table(made->lines, newest.last.sequence + 1, table->calls, answers.bytes, made->count);
+    return keep(store, &newest, image, made);
 }

@@ -5,10 +5,18 @@
 #include "report.h"
 #include "store.h"
 
-/* A call that was made: its line, and the image that it found. */
+/* What one commit made, a call or a table of calls: their lines, and the image that the first of them found. */
 struct made {
-    struct line line;
+    struct line lines[CRZ_TABLE_COUNT];
+    size_t count;
     uint8_t found[CRZ_IMAGE_LENGTH];
+};
+
+/* Calls that are made together. */
+struct table {
+    const uint8_t *calls; /* their records, one behind the other */
+    size_t count;         /* from 1 to CRZ_TABLE_COUNT */
+    int stop;             /* whether it ends with the first call that is refused */
 };
 
 /* What a first call asks of the journal. */
@@ -24,8 +32,12 @@ enum status zone_import(const char *path, const char *image_path, int *older);
 /* The newest state, its hashes judged. Returns 0, or -1 after a message. */
 int zone_read(struct store *store, struct newest *newest);
 
-/* Makes a call and commits it with its line. STATUS_ACCEPTED, STATUS_REFUSED, or another after a message. */
+/*
+ * Each makes its calls and commits them with their lines. STATUS_ACCEPTED, STATUS_REFUSED where a call was refused, or
+ * another after a message.
+ */
 enum status zone_call(
     struct store *store, const uint8_t call[CRZ_CALL_LENGTH], const struct expect *expect, struct made *made);
+enum status zone_table(struct store *store, const struct table *table, const struct expect *expect, struct made *made);
 
 #endif

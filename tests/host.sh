@@ -4,20 +4,22 @@
 # shellcheck source=tests/host_common.sh
 . "$(dirname "$0")/host_common.sh"
 
+version=$(sed -n 's/^#define CRZ_VERSION "\(.*\)"/\1/p' "$here/include/crz.h")
+
 # ── Commands and options ────────────────────────────────────────────────────────────────────────────
 ends 2 "crz new FILE"
 ends 0 "crz new FILE" --help
 ends 0 "crz new FILE" help
-ends 0 "crz 3.0.1, zone format 4, SQLite 3" --version
+ends 0 "crz $version, zone format 4, SQLite 3" --version
 for command in new call play show log verify statement due import export; do
     ends 0 "crz $command FILE" help "$command"
     ends 0 "crz $command FILE" "$command" --help
-    ends 0 "crz 3.0.1, zone format 4" "$command" --version
+    ends 0 "crz $version, zone format 4" "$command" --version
     ends 2 "$command takes FILE" "$command"
 done
 ends 0 "crz new FILE" help --help
 ends 0 "crz new FILE" help help
-ends 0 "crz 3.0.1" help --version
+ends 0 "crz $version" help --version
 ends 0 "kilograms   1,000 to 60,000" help call
 ends 0 "register account N receipt N kilograms N [premium N]" help register
 ends 0 "premium     -5,000 to 5,000; 0 where it is left out" help register
@@ -373,17 +375,157 @@ ends 0 "seller 3 owes 5,000,000 fen to buyer 14" due noon
 ends 0 "(tomorrow: today's is made), works 1 lot" due noon
 
 # ── A desk with books of its own ────────────────────────────────────────────────────────────────────
-# One of the two runs ends in a morning, the other in an afternoon, both with lots that are due.
-for seed in 131 91; do
-    "$crz" new "desk.$seed" >/dev/null
-    python3 "$here/tests/host_desk.py" "$crz" "desk.$seed" "$seed" 1500 >said
+# desk ZONE SEED OPTION..: 1,500 random calls
+desk() {
+    local zone=$1 seed=$2 last status
+    shift 2
+    "$crz" new "$zone" >/dev/null
+    python3 "$here/tests/host_desk.py" "$crz" "$zone" "$seed" 1500 "$@" >said
     status=$?
     cat said
     holds "a desk with books of its own ends with $status" test "$status" -eq 0
     last=$(tail -n 1 said)
     passed=$((passed + ${last%% *}))
-    ends 0 "replay: 1,500 calls compared" verify "desk.$seed"
+    ends 0 "replay: 1,500 calls compared" verify "$zone"
+    ends 0 "history: the books" verify "$zone"
+}
+# One of the two runs ends in a morning, the other in an afternoon, both with lots that are due; each call by call and
+# in tables.
+for seed in 131 91; do
+    desk "desk.$seed" "$seed"
+    desk "tables.$seed" "$seed" --table
+    ends 0 "1,500 of them in 47 tables" verify "tables.$seed"
+    holds "the same zone in tables" cmp -s <("$crz" show "desk.$seed") <("$crz" show "tables.$seed")
 done
+
+# ── Tables of calls ─────────────────────────────────────────────────────────────────────────────────
+# words ZONE: the calls of its log, as a script
+words() {
+    "$crz" log "$1" | sed -n 's/^[1-9][0-9]*  [^ ]*  //p'
+}
+# one_by_one and in_tables: what play prints of the script, without what is said of the tables
+one_by_one() {
+    "$crz" play "$@" | sed '$d'
+}
+in_tables() {
+    "$crz" play "$@" --table | sed '/, as one table/d; $d'
+}
+# same_zone NAME ONE OTHER: image and calls
+same_zone() {
+    rm -f one.image other.image
+    "$crz" export "$2" one.image >/dev/null && "$crz" export "$3" other.image >/dev/null
+    holds "$1: the same image" cmp -s one.image other.image
+    holds "$1: the same calls" cmp -s <(words "$2") <(words "$3")
+}
+words desk.91 >desk.script
+table=$(named CRZ_TABLE_COUNT)
+for count in 0 1 $((table - 1)) "$table" $((table + 1)) $((2 * table)) $((2 * table + 1)); do
+    head -n "$count" desk.script >script
+    tables=$(((count + table - 1) / table))
+    "$crz" new "single.$count" >/dev/null && "$crz" new "table.$count" >/dev/null
+    one_by_one "single.$count" script >single.said
+    in_tables "table.$count" script >table.said
+    holds "$count calls: the same answers in tables" cmp -s single.said table.said
+    holds "$count calls: every answer" test "$(grep -c '^accepted\|^refused' table.said)" -eq "$count"
+    same_zone "$count calls" "single.$count" "table.$count"
+    holds "$count calls make $tables tables" test \
+        "$("$crz" log "table.$count" | sed -n 's/^    [ar].*, \(table [0-9 to]*\):.*/\1/p' | sort -u | wc -l)" -eq "$tables"
+    ends 0 "replay: $count call$([ "$count" -eq 1 ] || echo s) compared" verify "table.$count"
+done
+ends 0 "replay: 65 calls compared, 65 of them in 3 tables" verify table.65
+ends 0 "replay: 1 call compared, 1 of them in 1 table, " verify table.1
+"$crz" new empty >/dev/null && cp empty empty.copy
+ends 0 "0 calls in 0 tables: 0 accepted, 0 refused" play empty /dev/null --table
+holds "a script without calls makes no table" cmp -s empty empty.copy
+# what is said of tables, and their lines in the log
+yes "pay-in account 5 fen 1" | head -n 65 >script
+ends 0 "calls 1 to 32 of 65, as one table" play empty script --table
+ends 0 "calls 33 to 64 of 65, as one table" play empty script --table
+ends 0 "call 65 of 65, as one table" play empty script --table
+ends 0 "65 calls in 3 tables: 65 accepted, 0 refused" play empty script --table
+"$crz" call empty take-out account 5 fen 1 >/dev/null
+# marks OPTION..: how many lines have which mark in the log, in their order
+marks() {
+    "$crz" log empty "$@" | sed -n 's/^    [ar][a-z]*\( [0-9]*\)\{0,1\}\(, \)\{0,1\}\(.*\):.*/\3/p' | uniq -c | tr -s ' \n' ' '
+}
+holds "marks of the last tables: $(marks --last 66)" test "$(marks --last 66)" = " 32 table 196 to 227 32 table 228 to 259 1 table 260 1 "
+for last in 1 2 3 20 33 34 35 65; do
+    holds "the last $last lines have their marks" test "$("$crz" log empty --last "$last")" = \
+        "$("$crz" log empty | tail -n $((2 * last)))"
+done
+holds "marks of an account's last lines" test "$(marks --account 5 --last 3)" = " 1 table 228 to 259 1 table 260 1 "
+# a refused call stops none behind it, and each finds what those before it left
+cat >script <<'END'
+take-out account 7 fen 1
+pay-in account 7 fen 5
+take-out account 7 fen 6
+register account 1 receipt 3 kilograms 1,000
+register account 2 receipt 3 kilograms 1,000
+list account 1 receipt 3 contract 1 days 0 basis-yuan -4
+pay-in account 2 fen 5,000,000
+quote contract 1 yuan 5
+market-bid account 2 receipt 3
+lodge account 1 receipt 3
+morning-close
+first-payment account 1 receipt 3
+invoice account 1 receipt 3 fen 33
+confirm account 2 receipt 3
+invoice account 1 receipt 3 fen 68
+invoice account 1 receipt 3 fen 33
+pay-in account 97 fen 1
+END
+"$crz" new refused >/dev/null && "$crz" play refused script --table >table.said
+holds "a table with refused calls ends with $?" test $? -eq 1
+for text in "refused 11, sequence 1: not enough free money: account 7 has 0 fen free, take-out needs 1 fen" \
+    "refused 11, sequence 3: not enough free money: account 7 has 5 fen free, take-out needs 6 fen" \
+    "receipt 3 is registered already, its owner is 1" "lot 3: struck, buyer 2, seller 1, 5 yuan per tonne" \
+    "lot 3: settled, buyer 2, seller 1, 100 fen" "its confirmation pays 6 fen of the rest, 67 fen are left to invoice" \
+    "the invoice is 68 fen, 67 fen are left to invoice" "its confirmation pays 7 fen of the rest, 34 fen are left to invoice" \
+    "refused 4, sequence 17: a field is out of range: account 97 is not in 1 to 96" \
+    "17 calls in 1 table: 12 accepted, 5 refused"; do
+    holds "a table says: $text" grep -qF "$text" table.said
+done
+ends 0 "replay: 17 calls compared, 17 of them in 1 table, 12 accepted and 5 refused" verify refused
+ends 0 "    refused 11, table 1 to 17: not enough free money" log refused
+ends 0 "first paid, lot 3, to account 1" statement refused 2
+# --stop ends at the first refused call, in a table too
+for count in 1 31 32 33 40 64; do # accepted ones before it
+    "$crz" new stopped >/dev/null && "$crz" new halted >/dev/null
+    { yes "pay-in account 5 fen 1" | head -n "$count"; echo "take-out account 6 fen 1"; yes "pay-in account 5 fen 2" | head -n 50; } >script
+    one_by_one halted script --stop >single.said
+    in_tables stopped script --stop >table.said
+    holds "--stop after $count calls: the same answers" cmp -s single.said table.said
+    holds "--stop after $count calls: the refused one is the last" grep -q "^refused 11, sequence $((count + 1)):" <(tail -n 1 table.said)
+    same_zone "--stop after $count calls" halted stopped
+    ends 0 "$count accepted and 1 refused" verify stopped
+    rm stopped halted
+done
+"$crz" new stopped >/dev/null
+ends 1 "2 calls in 1 table: 1 accepted, 1 refused; stopped, 2 not made" play stopped --table --stop \
+    <(printf 'pay-in account 1 fen 1\ntake-out account 2 fen 1\npay-in account 1 fen 1\nday-close\n')
+ends 0 "calls 1 to 2 of 2, as one table that ends with the first refused call" play stopped --stop --table \
+    <(printf 'pay-in account 1 fen 1\npay-in account 1 fen 1\n')
+# --expect is asked of the first table
+yes "pay-in account 5 fen 1" | head -n 40 >script
+ends 3 "the journal's last sequence number is 4, not 3 as --expect asks" play stopped script --table --expect 3
+ends 3 "of the script's 40 calls 0 were made" play stopped script --table --expect 3
+holds "what --expect holds back is not made" test "$(sequence stopped)" -eq 4
+ends 0 "40 calls in 2 tables: 40 accepted, 0 refused" play stopped script --table --expect 4
+ends 2 "1 bad line; no call was made" play stopped <(cat script; echo sell) --table
+ends 2 "play: --table takes no value" play stopped script --table=8
+ends 2 "play: --table is there twice" play stopped script --table --table
+ends 2 "play: '--tabel' is no option of it; did you mean '--table'?" play stopped script --tabel
+ends 2 "call: '--table' is no option of it" call stopped pay-in account 5 fen 1 --table
+ends 0 "  --table          make them in tables of up to $table calls" help play
+ends 0 "'table 65 to 96' has" help log
+holds "the log of tables makes a script" cmp -s <(words refused) <("$crz" new replayed >/dev/null
+    words refused | "$crz" play replayed - --table | sed -n 's/^> //p')
+same_zone "a log played again in a table" refused replayed
+"$crz" export refused refused.image >/dev/null && "$crz" import imported.table refused.image >/dev/null
+printf 'confirm account 2 receipt 3\nconfirm account 2 receipt 3\n' >script
+ends 1 "2 calls in 1 table: 1 accepted, 1 refused" play imported.table script --table
+ends 0 "replay: 2 calls compared, 2 of them in 1 table" verify imported.table
+ends 0 "this one was imported" verify imported.table
 
 # ── Objects for programs ────────────────────────────────────────────────────────────────────────────
 cat >objects.py <<'END'
@@ -452,11 +594,24 @@ objects 'c = kinds["call"][0]; assert c["accepted"] and c["number"] == 0 and c["
 objects 'c = kinds["call"][0]; assert not c["accepted"] and c["seen"].startswith("account 97") and c["total_fen"] is None' \
     call day pay-in account 97 fen 3
 printf 'pay-in account 5 fen 1\ntake-out account 5 fen 2\n' >script
-objects 'assert len(kinds["call"]) == 2 and kinds["played"][0] == {"type": "played", "calls": 2, "accepted": 1, "refused": 1, "not_made": 0}' \
+objects 'assert len(kinds["call"]) == 2 and kinds["played"][0] == {"type": "played", "calls": 2, "tables": 0, "accepted": 1, "refused": 1, "not_made": 0}' \
     play day script
+objects 'assert all(c["table"] is None and c["through"] == "crz_call" for c in kinds["call"])' log day
+objects 'c = kinds["call"][0]; assert c["table"] is None and c["through"] == "crz_call"' call day pay-in account 5 fen 1
+objects 'assert [c["table"] for c in kinds["call"]] == [{"first": 40, "last": 41}] * 2 and kinds["played"] == [{"type": "played",
+    "calls": 2, "tables": 1, "accepted": 2, "refused": 0, "not_made": 0}]' \
+    play day <(printf 'pay-in account 5 fen 1\npay-in account 5 fen 2\n') --table
+objects 'assert [c["table"] for c in kinds["call"]] == [{"first": n - (n - 1) % 32, "last": min(n - (n - 1) % 32 + 31, 65)}
+    for n in range(1, 66)]' log table.65
+objects 'assert [(c["sequence"], c["table"]) for c in kinds["call"]] == [(64, {"first": 33, "last": 64}), (65, {"first": 65, "last": 65})]' \
+    log table.65 --last 2
+objects 'assert {c["through"] for c in kinds["call"]} == {"crz_table"} and len({c["time"] for c in kinds["call"]}) == 1' log refused
+objects 'assert [c["seen"] for c in kinds["call"] if not c["accepted"]] == [None] * 5' log refused
+objects 'assert "call" not in kinds and kinds["played"] == [{"type": "played", "calls": 0, "tables": 0, "accepted": 0, "refused": 0,
+    "not_made": 0}]' play day /dev/null --table
 
 # ── Raw images ──────────────────────────────────────────────────────────────────────────────────────
-ends 0 "day.image: the image after sequence 38" export day day.image
+ends 0 "day.image: the image after sequence 41" export day day.image
 holds "the length of an image" test "$(stat -c %s day.image)" -eq "$image_length"
 ends 3 "exists already" export day day.image
 ends 3 "if it is a raw image, 'crz import ZONE day.image'" show day.image
@@ -613,10 +768,14 @@ mkdir readme guide guide/target
 (cd readme && python3 "$here/tests/host_samples.py" "$crz" "$here/README.md")
 holds "the README's samples" test $? -eq 0
 "$crz" new guide/target/day.crz >/dev/null && "$crz" play guide/target/day.crz "$here/host/day.txt" >/dev/null
+# shellcheck disable=SC2016 # the quotes are the document's
+sed -n '/^`open.txt`:$/,/^one commit/s/^    //p' "$here/docs/GUIDE.md" >guide/open.txt
 (cd guide && python3 "$here/tests/host_samples.py" "$crz" "$here/docs/GUIDE.md")
 holds "the guide's samples" test $? -eq 0
-# the guide's lines for a host of one's own, on the image of an invoice that waits
-cat >ours.c <<'END'
+ends 0 "replay: 39 calls compared, 5 of them in 1 table, 38 accepted and 1 refused" verify guide/target/day.crz
+# guided NUMBER NAME: a program with the guide's lines in C of that number, on an image from standard input
+guided() {
+    cat >"$2.c" <<'END'
 #include "crz_records.h"
 #include <inttypes.h>
 #include <stdio.h>
@@ -626,16 +785,27 @@ int main(void)
     if (fread(image, 1, sizeof image, stdin) != sizeof image)
         return 1;
 END
-# shellcheck disable=SC2016 # the quotes are the document's
-sed -n '/^```c$/,/^```$/{/^```/d;p}' "$here/docs/GUIDE.md" >>ours.c
-printf '    return 0;\n}\n' >>ours.c
-holds "the guide's lines in C" gcc -std=c99 -Wall -Wextra -Wconversion -Werror -I"$here/include" -o ours ours.c
+    # shellcheck disable=SC2016 # the quotes are the document's
+    awk -v number="$1" '/^```c$/ { within = ++found == number; next } /^```$/ { within = 0 } within' "$here/docs/GUIDE.md" >>"$2.c"
+    printf '    return 0;\n}\n' >>"$2.c"
+    gcc -std=c99 -Wall -Wextra -Wconversion -Werror -I"$here/include" -o "$2" "$2.c" "$here/target/staticlib/libcrz.a"
+}
+holds "the guide's lines in C" guided 1 ours
+holds "the guide's table of calls in C" guided 2 ours.table
+"$crz" new ours.zone >/dev/null && "$crz" export ours.zone ours.image >/dev/null
+holds "what it prints: $(./ours.table <ours.image)" test "$(./ours.table <ours.image)" = "call 0: number 0
+call 1: number 11
+call 2: number 0"
+head -c "$image_length" /dev/zero >ours.zeros
+holds "and on no valid image" test "$(./ours.table <ours.zeros)" = "call 0: number 2
+call 1: number 2
+call 2: number 2"
+# on the image of an invoice that waits
 "$crz" call cut.thirds invoice account 1 receipt 3 fen 4 >/dev/null && "$crz" export cut.thirds thirds.image >/dev/null
 holds "what they print: $(./ours <thirds.image)" test "$(./ours <thirds.image)" = "lot 3: left to invoice 30 fen
 the next confirmation pays 1 fen"
 holds "and without an invoice" test "$(./ours <parts.image)" = "lot 3: left to invoice 34 fen
 no invoice is pending"
-version=$(sed -n 's/^#define CRZ_VERSION "\(.*\)"/\1/p' "$here/include/crz.h")
 holds "the man page is of version $version" grep -q "^.TH CRZ 1 .* \"crz $version\"" "$here/host/crz.1"
 for command in new call play show log verify statement due import export; do
     holds "the man page has $command" grep -q "fBcrz $command" "$here/host/crz.1"

@@ -1,7 +1,8 @@
-"""A desk with books of its own: host_desk.py PROGRAM ZONE SEED CALLS
+"""A desk with books of its own: host_desk.py PROGRAM ZONE SEED CALLS [--table]
 
-Plays random calls through the program on a fresh zone and compares each answer, with the words of each refusal, and
-then what show, due and statement say, with books that are kept here apart. The last line is 'N passed, M failed'.
+Plays random calls through the program on a fresh zone, one by one or in tables, and compares each answer, with the
+words of each refusal, and then what show, due and statement say, with books that are kept here apart. The last line is
+'N passed, M failed'.
 """
 import json
 import random
@@ -11,6 +12,7 @@ import sys
 IDLE, LISTED, BID_STANDS, STRUCK, LODGED, SETTLED, FIRST_PAID, PENALTY_DUE = range(8)
 STATES = ["idle", "listed", "bid stands", "struck", "lodged", "settled", "first paid", "penalty due"]
 DEPOSIT = PENALTY = 5000000
+TABLE = 32  # calls of a table
 PARTIES = ["account", "receipt"]
 FIELDS = {
     "pay-in": ["account", "fen"], "take-out": ["account", "fen"], "register": PARTIES + ["kilograms", "premium_yuan"],
@@ -433,9 +435,27 @@ def make_script(books, seed, calls):
     return script, wanted
 
 
-def compare_answers(check, program, zone, script, wanted):
-    said = objects(program, "play", zone, "-", script=script.encode())
+def table_of(place, calls, options):
+    """The table of a call, places from 0: a script is cut into tables from its first call on."""
+    first = place - place % TABLE
+    return {"first": first + 1, "last": min(first + TABLE, calls)} if "--table" in options else None
+
+
+def compare_tables(check, said, options):
+    """Which calls were made together."""
+    calls = len(said) - 1
+    tables = [table_of(place, calls, options) for place in range(calls)]
+    through = "crz_table" if "--table" in options else "crz_call"
+    check.same("tables", [o["table"] for o in said[:-1]], tables)
+    check.same("entries that calls went through", {o["through"] for o in said[:-1]}, {through})
+    check.same("times of a table", len({o["time"] for o in said[:TABLE]}) == 1 or "--table" not in options, True)
+    check.same("tables counted", said[-1]["tables"], len({t["first"] for t in tables if t}))
+
+
+def compare_answers(check, program, zone, script, wanted, options):
+    said = objects(program, "play", zone, "-", *options, script=script.encode())
     check.same("calls played", len(said) - 1, len(wanted))
+    compare_tables(check, said, options)
     for got, (call, number, seen, entries, invoiced) in zip(said, wanted):
         check.same("answer to %s" % call, (got["call"], got["number"], got["seen"]), (call, number, seen))
         check.same("entries of %s" % call, list(map(entry_fields, got["entries"])), entries)
@@ -537,9 +557,9 @@ def compare_statement(check, program, zone, books, account):
 
 
 def main():
-    program, zone, seed, calls = sys.argv[1:]
+    program, zone, seed, calls, *options = sys.argv[1:]
     check, books = Check(), Books()
-    compare_answers(check, program, zone, *make_script(books, int(seed), int(calls)))
+    compare_answers(check, program, zone, *make_script(books, int(seed), int(calls)), options)
     compare_show(check, program, zone, books)
     compare_due(check, program, zone, books)
     for account in range(1, 97):

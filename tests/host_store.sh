@@ -104,6 +104,9 @@ rm twice
 # ── Modes, links, names of any kind ─────────────────────────────────────────────────────────────────
 chmod 444 a
 ends 3 "nobody may write it (mode 444); 'chmod u+w a' allows it" call a pay-in account 1 fen 5
+script 3 >three
+script 40 >forty
+ends 3 "nobody may write it (mode 444)" play a three --table
 holds "a zone that nobody may write stays" test "$(total a)" -eq 5
 for mode in 600 640 666; do
     chmod "$mode" a
@@ -162,6 +165,32 @@ holds "a closed input ends with $status: $(cat said)" test "$status" -eq 3
 script 3 | "$crz" play out - >/dev/full 2>said
 holds "a script to a full device ends with $?" test $? -eq 3
 holds "nothing of the script was made" test "$(total out)" -eq 10
+"$crz" play out forty --table >/dev/full 2>said
+holds "tables to a full device end with $?" test $? -eq 3
+holds "tables to a full device: $(cat said)" grep -qF "of the script's 40 calls 0 were made" said
+holds "no table was made" test "$(total out)" -eq 10
+# the first table's answers go out, those of the second do not
+"$crz" new answered >/dev/null
+head -c $((40960 - 4000)) /dev/zero >filled
+script 70 | (ulimit -f 40; "$crz" play answered - --table >>filled 2>said)
+status=$?
+holds "answers of a table that are not shown end with $status: $(cat said)" test "$status" -eq 4
+holds "which calls: $(cat said)" grep -qF "calls 33 to 64 were made, but not all of their answers could be shown" said
+holds "where they are: $(cat said)" grep -qF "'crz log answered --last 32' shows them" said
+holds "how many: $(cat said)" grep -qF "of the script's 70 calls 64 were made" said
+holds "the tables were made" test "$(total answered)" -eq 64
+ends 3 "last sequence number is 64, not 32" play answered three --table --expect 32
+head -c 40950 /dev/zero >filled
+script 1 | (ulimit -f 40; "$crz" play answered - --table >>filled 2>said)
+status=$?
+holds "a table that cannot be named is not made: $status: $(cat said)" test "$status" -eq 3 -a "$(total answered)" -eq 64
+head -c 40900 /dev/zero >filled
+script 1 | (ulimit -f 40; "$crz" play answered - --table >>filled 2>said)
+status=$?
+holds "a table of one call that is not shown ends with $status: $(cat said)" test "$status" -eq 4
+holds "a table of one call: $(cat said)" grep -qF "call 65 was made, but its answer could not be shown" said
+whole answered
+holds "journal and image agree" test $? -eq 0
 # answers that fit exactly, and a last line that does not: calls were made
 "$crz" new exact >/dev/null
 head -c $((40960 - 68)) /dev/zero >filled
@@ -206,6 +235,8 @@ ends 3 "in use by another program; gave up after 1 second, --wait SECONDS waits 
 took=$((($(date +%s%N) - start) / 1000000))
 holds "the wait ended after $took ms" test "$took" -ge 1000 -a "$took" -lt 4000
 ends 3 "in use by another program; gave up after 0 seconds" call held --wait 0 pay-in account 1 fen 5
+ends 3 "in use by another program; gave up after 0 seconds" play held three --wait 0 --table
+ends 3 "of the script's 3 calls 0 were made" play held three --wait 0 --table
 ends 0 "total 0 fen" show held
 ("$crz" call held --wait 30 pay-in account 1 fen 5 >said 2>&1) &
 waiting=$!
@@ -222,6 +253,7 @@ ends 0 "total 5 fen" show held
 # ── Signals ─────────────────────────────────────────────────────────────────────────────────────────
 # A script that is asked to end finishes its call, says how far it came, leaves one file and ends by the signal.
 script 20000 >many
+script 100000 >longer
 for name in INT TERM HUP; do
     "$crz" new "signal.$name" >/dev/null
     : >said
@@ -237,6 +269,21 @@ for name in INT TERM HUP; do
     holds "$name: what was told is there" test "$(total "signal.$name")" -eq "$told"
     holds "$name: one file is left" test "$(echo signal."$name"*)" = "signal.$name"
 done
+# In tables it finishes the table.
+"$crz" new signal.table >/dev/null
+: >said
+env --default-signal=TERM "$crz" play signal.table longer --table >said 2>&1 &
+player=$!
+for _ in $(seq 1000); do [ -s said ] && break; sleep 0.01; done
+sleep 0.1
+kill -s TERM "$player"
+wait "$player" 2>/dev/null
+holds "a script in tables that gets TERM ends with $?" test $? -eq 143
+told=$(grep -c '^accepted' said)
+holds "whole tables were made: $told" test $((told % 32)) -eq 0 -a "$told" -lt 100000
+holds "tables and TERM: $(tail -n 1 said)" grep -qF "of the script's 100,000 calls $(thousands "$told") were made" said
+holds "tables and TERM: what was told is there" test "$(total signal.table)" -eq "$told"
+holds "tables and TERM: one file is left" test "$(echo signal.table*)" = signal.table
 held_by immediate
 env --default-signal=TERM "$crz" call held --wait 60 pay-in account 1 fen 5 >said 2>&1 &
 waiting=$!
@@ -266,6 +313,26 @@ holds "ten programs: every call has its own number" test "$(cat said.* | grep -o
 whole shared
 holds "ten programs: journal and image agree" test $? -eq 0
 
+# Tables of two programs and calls of two others: nobody comes between the calls of a table.
+"$crz" new mixed >/dev/null
+script 100 >hundred
+rm -f said.*
+for n in 1 2; do
+    "$crz" play mixed hundred --wait 60 --table >"said.$n" 2>&1 &
+    "$crz" play mixed hundred --wait 60 >"said.$n.single" 2>&1 &
+done
+wait
+holds "tables and calls at once: 400 accepted" test "$(cat said.* | grep -c '^accepted')" -eq 400
+holds "every call has its own number" test "$(cat said.* | grep -o 'sequence [0-9]*' | sort -u | wc -l)" -eq 400
+for n in 1 2; do # 32, 32, 32 and 4 calls, each table with numbers one behind the other
+    grep -o '^calls.*\|sequence [0-9]*' "said.$n" | awk '/^calls/ { next_of_table = 0; tables++; next }
+        next_of_table && $2 != next_of_table { bad = 1 } { next_of_table = $2 + 1 } END { exit bad || tables != 4 }'
+    holds "the calls of a table follow one another" test $? -eq 0
+done
+whole mixed
+holds "tables and calls at once: journal and image agree" test $? -eq 0
+holds "what verify counts: $(cat verified)" grep -qF "replay: 400 calls compared, 200 of them in 8 tables" verified
+
 # A call beside a long script does not wait for its end.
 "$crz" new beside >/dev/null
 "$crz" play beside many >said 2>&1 &
@@ -274,6 +341,15 @@ for _ in $(seq 1000); do [ -s said ] && break; sleep 0.01; done
 for n in $(seq 5); do ends 0 "accepted" call beside pay-in account 1 fen 1; done
 holds "the script still runs" kill -s TERM "$player"
 wait "$player"
+: >said
+"$crz" play beside longer --table >said 2>&1 &
+player=$!
+for _ in $(seq 1000); do [ -s said ] && break; sleep 0.01; done
+for n in $(seq 5); do ends 0 "accepted" call beside pay-in account 1 fen 1; done
+holds "the script in tables still runs" kill -s TERM "$player"
+wait "$player"
+whole beside
+holds "calls between tables: journal and image agree" test $? -eq 0
 
 # ── Files that go while a script runs ───────────────────────────────────────────────────────────────
 "$crz" new gone >/dev/null
@@ -297,6 +373,16 @@ wait "$player"
 holds "a zone moved away ends its script with $?" test $? -eq 3
 holds "a zone moved away is told" grep -qF "the file was moved or replaced while in use" said
 holds "a zone moved away has what was accepted" test "$(total away)" -eq $((300 + $(grep -c '^accepted' said)))
+mv away gone
+before=$(total gone)
+: >said
+"$crz" play gone longer --table >said 2>&1 &
+player=$!
+for _ in $(seq 500); do [ -s said ] && break; sleep 0.01; done
+mv gone away
+wait "$player"
+holds "a zone moved away ends its tables with $?" test $? -eq 3
+holds "and has what was accepted" test "$(total away)" -eq $((before + $(grep -c '^accepted' said)))
 
 # ── Other users ─────────────────────────────────────────────────────────────────────────────────────
 if [ "$(id -u)" -eq 0 ] && as_nobody true 2>/dev/null; then
@@ -342,6 +428,16 @@ holds "what was accepted is there" test "$(total limited)" -eq "$(grep -c '^acce
 whole limited
 holds "journal and image agree after it" test $? -eq 0
 ends 0 "accepted" call limited pay-in account 5 fen 1
+before=$(total limited)
+(ulimit -f 60; "$crz" play limited longer --table >said 2>&1)
+status=$?
+holds "a limit on the file's length ends tables with $status: $(tail -n 1 said)" test "$status" -eq 3
+holds "it is told" grep -qE 'crz: limited: the disk (is full|reports an error)' said
+told=$(grep -c '^accepted' said)
+holds "whole tables were accepted: $told" test $((told % 32)) -eq 0 -a "$told" -gt 0
+holds "what was accepted is there" test "$(total limited)" -eq $((before + told))
+whole limited
+holds "journal and image agree after it" test $? -eq 0
 cat >disks.sh <<'END'
 crz=$1
 mount -t tmpfs -o size=160k none disk || exit 9
@@ -353,6 +449,13 @@ echo $? >full.status
 "$crz" verify disk/zone >full.verify 2>&1
 rm disk/filler
 "$crz" call disk/zone pay-in account 5 fen 1 >full.after 2>&1
+"$crz" show disk/zone | sed -n '1s/.*total \(.*\) fen/\1/p' | tr -d , >tables.before
+head -c 30k /dev/zero >disk/filler
+"$crz" play disk/zone many --table >tables.said 2>&1
+echo $? >tables.status
+"$crz" show disk/zone | sed -n '1s/.*total \(.*\) fen/\1/p' | tr -d , >tables.total
+"$crz" verify disk/zone >tables.verify 2>&1
+rm disk/filler
 head -c 200k /dev/zero >disk/filler 2>/dev/null
 "$crz" new disk/other >full.new 2>&1
 ls disk >full.ls
@@ -363,6 +466,8 @@ echo $? >ro.show.status
 "$crz" verify disk/zone >ro.verify 2>&1
 "$crz" call disk/zone pay-in account 5 fen 1 >ro.call 2>&1
 echo $? >ro.status
+"$crz" play disk/zone three --table >ro.table 2>&1
+echo $? >ro.table.status
 "$crz" new disk/third >ro.new 2>&1
 echo $? >ro.new.status
 END
@@ -373,12 +478,20 @@ if unshare -m sh disks.sh "$crz" 2>unshare.said; then
     holds "a full disk has what was accepted" test "$(cat full.total)" -eq "$(grep -c '^accepted' full.said)"
     holds "a full disk: $(cat full.verify)" grep -qF "history: the books" full.verify
     holds "room again: $(cat full.after)" grep -qF "accepted" full.after
+    holds "a full disk ends tables with $(cat tables.status)" grep -qx 3 tables.status
+    holds "a full disk has the tables that were accepted: $(tail -n 2 tables.said)" test \
+        "$(cat tables.total)" -eq $(($(cat tables.before) + $(grep -c '^accepted' tables.said)))
+    holds "and no part of one" test $(($(grep -c '^accepted' tables.said) % 32)) -eq 0
+    holds "a full disk and tables: $(cat tables.verify)" grep -qF "history: the books" tables.verify
     holds "no new zone on a full disk: $(cat full.new)" grep -qF "cannot be made: No space left" full.new
     holds "nothing is left of it" test "$(tr '\n' ' ' <full.ls)" = "filler zone "
     holds "a read-only disk is shown: $(cat ro.show.status)" grep -qx 0 ro.show.status
     holds "a read-only disk is verified" grep -qF "history: the books" ro.verify
     holds "a read-only disk ends with $(cat ro.status)" grep -qx 3 ro.status
     holds "a read-only disk is told: $(cat ro.call)" grep -qF "cannot be written: Read-only file system" ro.call
+    holds "a read-only disk ends tables with $(cat ro.table.status)" grep -qx 3 ro.table.status
+    holds "a read-only disk is told: $(cat ro.table)" grep -qF "cannot be written: Read-only file system" ro.table
+    holds "a read-only disk: $(cat ro.table)" grep -qF "no call was made" ro.table
     holds "no new zone on a read-only disk: $(cat ro.new)" grep -qx 3 ro.new.status
 else
     echo "no disk of our own ($(head -n 1 unshare.said)): the limit on a file's length stands in for a full disk"
@@ -412,6 +525,30 @@ for round in $(seq 25); do
     last=${now:-0}
 done
 holds "the kills came in the middle of the script: $last" test "$last" -gt 0 -a "$last" -lt 500000
+# A kill in the middle of a table leaves all of its calls or none.
+"$crz" new killed.table >/dev/null
+last=0 cut=0
+for round in $(seq 25); do
+    : >said
+    "$crz" play killed.table many --table >said 2>&1 &
+    player=$!
+    for _ in $(seq $((round % 2 * 1000))); do [ -s said ] && break; sleep 0.01; done
+    sleep "0.0$((RANDOM % 90 + 10))"
+    kill -9 "$player" 2>/dev/null
+    wait "$player" 2>/dev/null
+    told=$(grep -c '^accepted' said)
+    whole killed.table
+    holds "tables, round $round: journal and image agree" test $? -eq 0
+    now=$(total killed.table)
+    holds "tables, round $round: $now fen after $last and $told answers" test -n "$now" -a "${now:-0}" -ge $((last + told)) \
+        -a "${now:-0}" -le $((last + (told + 31) / 32 * 32 + 32))
+    holds "tables, round $round: whole tables" test $(((${now:-0} - last) % 32)) -eq 0
+    [ "${now:-0}" -eq $((last + told)) ] || cut=$((cut + 1))
+    last=${now:-0}
+done
+holds "the kills came in the middle of the script: $last" test "$last" -gt 0 -a "$last" -lt 500000
+holds "what verify counts" grep -qF "replay: $(thousands "$last") calls compared, $(thousands "$last") of them in $(thousands $((last / 32))) table" verified
+echo "kills between tables: $cut of 25 left a table that was made and not told"
 for round in $(seq 20); do
     "$fast" new "made.$round" >/dev/null 2>&1 &
     player=$!
@@ -447,6 +584,12 @@ cut_off
 ends 0 "accepted, sequence 101" call halfway pay-in account 5 fen 1
 whole halfway
 holds "a call took it back" test $? -eq 0
+cp halfway whole.copy
+cut_off
+ends 0 "3 calls in 1 table: 3 accepted, 0 refused" play halfway three --table
+whole halfway
+holds "a table took it back" test $? -eq 0
+ends 0 "accepted, sequence 105" call halfway take-out account 5 fen 3
 if [ "$(id -u)" -eq 0 ] && as_nobody true 2>/dev/null; then
     cp halfway whole.copy
     cut_off
@@ -482,6 +625,28 @@ if gcc -shared -fPIC -o failing.so "$here/tests/failing_sync.c" -ldl 2>/dev/null
         whole synced
         holds "sync $n: journal and image agree" test $? -eq 0
     done
+    # Two tables: all of a table's calls or none, and a message that names them.
+    unsure=0
+    for n in $(seq 14); do
+        before=$(sequence synced)
+        ASAN_OPTIONS=verify_asan_link_order=0 FAIL_SYNC=$n LD_PRELOAD=./failing.so "$crz" play synced forty --table >said 2>&1
+        status=$?
+        after=$(sequence synced) told=$(grep -c '^accepted' said)
+        case $status in
+        0) holds "sync $n, tables accepted: $(cat said)" test "$after" -eq $((before + 40)) ;;
+        3) holds "sync $n, table not made: $(cat said)" test "$after" -eq $((before + told)) ;;
+        4) # told are the tables before it
+            unsure=$((unsure + 1))
+            calls=$((told == 0 ? 32 : 8)) first=$((before + told + 1))
+            holds "sync $n, unsure: $(tail -n 2 said)" grep -qF "the disk failed while calls $first to $((first + calls - 1)) were kept, all or none of them; 'crz log synced --last $calls' shows whether they were made" said
+            holds "sync $n: all or none of $before, $told, $after" test "$after" -eq $((first - 1)) -o "$after" -eq $((first + calls - 1)) ;;
+        *) holds "sync $n, tables end with $status: $(cat said)" false ;;
+        esac
+        holds "sync $n: only whole tables are told" test "$told" -eq 0 -o "$told" -eq 32 -o "$told" -eq 40
+        whole synced
+        holds "sync $n, tables: journal and image agree" test $? -eq 0
+    done
+    holds "a sync failed at the end of a commit: $unsure" test "$unsure" -gt 0
 else
     echo "no shared objects can be built: failing syncs are not tried"
 fi
@@ -533,6 +698,7 @@ END
 "$crz" new long >/dev/null
 holds "a long script shows how far it is on a terminal" python3 terminal.py 'play: ' ' of 20,000 calls' "$crz" play long many
 holds "and nowhere else" test "$(timeout 2 "$crz" play long many 2>&1 >/dev/null | grep -c 'play: ')" -eq 0
+holds "a long script in tables shows it too" python3 terminal.py 'play: ' ' of 100,000 calls' "$crz" play long longer --table
 cat >clock.c <<'END'
 #include <time.h>
 int clock_gettime(clockid_t clock, struct timespec *time) /* every look at the clock is two seconds later */
@@ -550,7 +716,7 @@ fi
 
 # ── Changed bytes ───────────────────────────────────────────────────────────────────────────────────
 "$crz" new good >/dev/null && "$crz" play good "$here/host/day.txt" >/dev/null
-cp good full && script 90 | "$crz" play full - >/dev/null
+cp good full && script 30 | "$crz" play full - >/dev/null && script 60 | "$crz" play full - --table >/dev/null
 "$crz" log full >full.log
 "$crz" show full >full.show
 size=$(stat -c %s full)
@@ -568,7 +734,11 @@ for ((at = 0; at < size; at += 512)); do
     else
         holds "byte $at changed: verify ends with $verdict: $(cat said)" false
     fi
-    "$crz" call bad pay-in account 5 fen 1 >said 2>&1
+    if [ $((at % 1024)) -eq 0 ]; then
+        "$crz" call bad pay-in account 5 fen 1 >said 2>&1
+    else
+        "$crz" play bad forty --table >said 2>&1
+    fi
     status=$?
     "$crz" verify bad >after 2>&1
     after=$?
@@ -647,6 +817,85 @@ cp good bad && python3 forge.py bad \
     "update journal set image_hash = (select image_hash from journal where sequence = 4) where sequence = 5"
 ends 3 "line 5 of the journal is the first bad one: the image after it is another" verify bad
 
+# Lines of a table, edited by someone who makes all hashes anew: behind 38 calls made one by one there are tables of 32,
+# 32 and 5 calls, then three more calls.
+{ script 3; echo "take-out account 6 fen 1"; } | "$crz" play good - >/dev/null
+{ script 20; echo "take-out account 6 fen 1"; script 11; } >mixed.script
+cat mixed.script mixed.script three three >script.tables
+head -n 69 script.tables | "$crz" play good - --table >/dev/null
+script 3 | "$crz" play good - >/dev/null
+ends 0 "replay: 110 calls compared, 69 of them in 3 tables, 107 accepted and 3 refused" verify good
+holds "the tables" test "$("$crz" log good --last 71 | grep -o 'table [0-9]* to [0-9]*' | uniq | tr '\n' ' ')" = \
+    "table 39 to 70 table 71 to 102 table 103 to 107 "
+# forged LINE TEXT SQL..: the line is named with these words
+forged() {
+    local line=$1 text=$2
+    shift 2
+    cp good bad && python3 forge.py bad "$@"
+    ends 3 "line $line of the journal is the first bad one: $text" verify bad
+}
+forged 45 "the library returns another number" "update journal set number = 11, answer = x'0B' where sequence = 45"
+forged 45 "the library returns another number" "update journal set number = 11 where sequence = 45"
+forged 59 "the library returns another number" "update journal set number = 7, answer = x'07' where sequence = 59"
+forged 59 "the library gives another answer" "update journal set answer = x'07' where sequence = 59"
+forged 45 "the library gives another answer" "update journal set answer = x'00000000100000000100000000000000' where sequence = 45"
+forged 39 "the library gives another answer" "update journal set call = (select call from journal where sequence = 1) where sequence = 39"
+forged 60 "the library gives another answer" "update journal set call = (select call from journal where sequence = 1) where sequence = 60"
+forged 70 "the image after it is another" \
+    "update journal set image_hash = (select image_hash from journal where sequence = 38) where sequence = 70"
+forged 41 "its call record has another length than those of a table" "update journal set call = x'01' where sequence = 41"
+forged 107 "its call record has another length than those of a table" \
+    "update journal set call = cast(substr(call, 1, 23) as blob) where sequence = 107"
+forged 50 "it went through an entry that this program does not know" "update journal set entry = 'crz_tables' where sequence = 50"
+# a call by itself among those of a table, a table without its end, one that is too long, one cut in two
+forged 50 "it has no hash of the image" "update journal set entry = 'crz_call' where sequence = 50"
+forged 39 "it has no hash of the image" "update journal set entry = 'crz_call' where sequence = 39"
+forged 69 "its table ends with it, but it has no hash of the image" "update journal set entry = 'crz_call' where sequence = 70"
+forged 107 "its table ends with it, but it has no hash of the image" "update journal set image_hash = null where sequence = 107"
+forged 71 "its table has more calls than a table can have" "update journal set image_hash = null where sequence = 70"
+forged 71 "its table has more calls than a table can have" "update journal set image_hash = null where sequence in (70, 102)"
+forged 50 "it has another time than the table that it stands in" \
+    "update journal set time = '2001-01-01T00:00:00.000Z' where sequence = 50"
+cp good joined
+for _ in 1 2; do
+    sleep 0.01
+    "$crz" play joined three --table >/dev/null
+done
+cp joined bad && python3 forge.py bad "update journal set image_hash = null where sequence = 113"
+ends 3 "line 114 of the journal is the first bad one: it has another time than the table that it stands in" verify bad
+forged 50 "the image after it is another" \
+    "update journal set image_hash = (select image_hash from journal where sequence = 70) where sequence = 50"
+forged 38 "it has no hash of the image" "update journal set image_hash = null where sequence = 38"
+forged 0 "it has no hash of the image" "update journal set image_hash = null where sequence = 0"
+forged 0 "it is no start" "update journal set entry = 'crz_table' where sequence = 0"
+forged 70 "it is missing" "delete from journal where sequence = 70"
+forged 45 "it is missing" "delete from journal where sequence = 45"
+forged 39 "it is missing" "delete from journal where sequence between 39 and 70"
+# the first bad line is named where a later one of the same table is bad too
+forged 45 "the library gives another answer" "update journal set answer = x'00000000100000000100000000000000' where sequence = 45" \
+    "delete from journal where sequence = 50"
+forged 45 "the library gives another answer" "update journal set answer = x'00000000100000000100000000000000' where sequence = 45" \
+    "update journal set entry = 'crz_call' where sequence = 50"
+cp good bad && python3 forge.py bad "update journal set answer = x'00000000100000000100000000000000' where sequence = 45"
+change bad "update journal set call = 5 where sequence = 50"
+ends 3 "line 45 of the journal is the first bad one: the library gives another answer" verify bad
+# a journal that ends in the middle of a table
+forged 100 "it has no hash of the image" "delete from journal where sequence > 100"
+cp good bad && change bad "delete from journal where sequence > 100"
+ends 3 "the journal does not end with the line that the image was kept with" call bad pay-in account 5 fen 1
+ends 3 "the journal does not end with the line that the image was kept with" play bad three --table
+cp good bad && python3 forge.py bad "delete from journal where sequence > 100"
+ends 3 "the image does not fit its hash in the last line of the journal" play bad three --table
+# without new hashes the changed line itself is named
+caught "update journal set number = 11 where sequence = 45" "line 45 of the journal is the first bad one: it does not fit its hash"
+caught "update journal set entry = 'crz_call' where sequence = 50" "line 50 of the journal is the first bad one: it does not fit its hash"
+caught "update journal set image_hash = null where sequence = 70" "line 70 of the journal is the first bad one: it does not fit its hash"
+caught "update journal set image_hash = (select image_hash from journal where sequence = 70) where sequence = 50" \
+    "line 50 of the journal is the first bad one: it does not fit its hash"
+caught "update journal set call = 5 where sequence = 45" "line 45 of the journal is the first bad one: it cannot be read"
+caught "delete from journal where sequence = 45" "line 45 of the journal is the first bad one: it is missing"
+caught "delete from journal where sequence > 100" "line 100 of the journal is the first bad one: it has no hash of the image"
+
 # ── Speed ───────────────────────────────────────────────────────────────────────────────────────────
 # 1,000 calls a second are asked for, and 200 needed. A disk or a machine that others use too can be slower than that for
 # a while; then SQLite alone, with commits of the same size, says what could be had.
@@ -676,4 +925,18 @@ for round in 1 2 3 4 5; do
     [ "$rate" -ge 1000 ] || [ $((2 * rate)) -ge "$alone" ] && enough=yes && break
 done
 holds "play makes 1,000 calls a second, or half as many as SQLite alone" test "$enough" = yes
+# In tables there is one commit for 32 calls. It writes more than that of one call; four times as many calls are asked for.
+head -n 500 two_thousand >five_hundred
+enough=no
+for round in 1 2 3 4 5; do
+    start=$(date +%s%N)
+    "$fast" play speed five_hundred >/dev/null
+    rate=$((500 * 1000 / (($(date +%s%N) - start) / 1000000 + 1)))
+    start=$(date +%s%N)
+    "$fast" play speed two_thousand --table >/dev/null
+    tables=$((2000 * 1000 / (($(date +%s%N) - start) / 1000000 + 1)))
+    echo "play: $rate calls a second, in tables $tables"
+    [ "$tables" -ge $((4 * rate)) ] && enough=yes && break
+done
+holds "play makes four times as many calls a second in tables" test "$enough" = yes
 finish
