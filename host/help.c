@@ -103,7 +103,7 @@ void print_usage(FILE *to)
 
 void print_version(void)
 {
-    printf("crz %s, zone format %d, %s\n", CRZ_VERSION, STORE_FORMAT, store_engine());
+    printf("crz %s, zone formats %d and %d, %s\n", CRZ_VERSION, STORE_FORMAT, STORE_FORMAT_TABLES, store_engine());
 }
 
 static void print_call_help(void)

@@ -36,16 +36,17 @@ static int header_ours(const uint8_t *header)
 /* What an older program exports can be imported; a newer one is to be used itself. */
 static int other_format(const char *name, unsigned format)
 {
-    if (format > STORE_FORMAT)
+    if (format > STORE_FORMAT_TABLES)
         return report(name,
-            "is a zone of the newer format %u; this program knows format %d and leaves the file as it was; use the "
-            "program that made it",
-            format, STORE_FORMAT);
+            "is a zone of the newer format %u; this program knows formats %d and %d and leaves the file as it was; use "
+            "the program that made it",
+            format, STORE_FORMAT, STORE_FORMAT_TABLES);
     return report(name,
-        "is a zone of the older format %u; this program knows format %d and leaves the file as it was; the program "
-        "that made it writes its image with 'crz export %s IMAGE', and 'crz import ZONE IMAGE' here takes that, or "
-        "says which trades are to be finished first",
-        format, STORE_FORMAT, name);
+        "is a zone of the older format %u; this program knows formats %d and %d and leaves the file as it was; the "
+        "program that made it writes its image with 'crz export %s IMAGE', and 'crz import ZONE IMAGE' here takes "
+        "that, "
+        "or says which trades are to be finished first",
+        format, STORE_FORMAT, STORE_FORMAT_TABLES, name);
 }
 
 static int judge_header(const char *name, enum store_use use, const uint8_t *header, ssize_t has, off_t length)
@@ -57,8 +58,9 @@ static int judge_header(const char *name, enum store_use use, const uint8_t *hea
         return report(name, "is no zone; if it is a raw image, 'crz import ZONE %s' makes a zone from it", name);
     if (has < HEADER || memcmp(header, magic, sizeof magic) != 0 || big_endian(header + 68) != JUDGE_APPLICATION)
         return report(name, "is no zone; name a file that 'crz new' or 'crz import' has made");
-    if (big_endian(header + 60) != STORE_FORMAT)
-        return other_format(name, big_endian(header + 60));
+    unsigned format = big_endian(header + 60);
+    if (format != STORE_FORMAT && format != STORE_FORMAT_TABLES)
+        return other_format(name, format);
     return header_ours(header) ? 0 : store_damaged(name, use, "its header is changed");
 }
 

@@ -642,10 +642,18 @@ static enum commit after_error(struct store *store, const struct hash *hash)
     return COMMIT_NOT_DONE;
 }
 
+/* The first table of a zone gives it the format that older programs leave alone; those behind it change nothing. */
+static int put_format(struct store *store)
+{
+    char text[64];
+    snprintf(text, sizeof text, "PRAGMA user_version = %d", STORE_FORMAT_TABLES);
+    return execute(store, text);
+}
+
 enum commit store_commit(
     struct store *store, const uint8_t image[CRZ_IMAGE_LENGTH], const struct line *lines, size_t count)
 {
-    int bad = 0;
+    int bad = strcmp(lines[0].entry, ENTRY_TABLE) == 0 && put_format(store) != 0;
     for (size_t i = 0; i < count && !bad; i++)
         bad = add_line(store, &lines[i]);
     bad = bad || put_zone(store, image, &lines[count - 1].hash) != 0 || stands(store, image, lines, count) != 0;

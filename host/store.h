@@ -9,7 +9,8 @@
 
 #include "journal.h"
 
-enum { STORE_FORMAT = 4 };
+/* Of a zone without tables, and from its first table on: older programs know the first one alone and leave the file. */
+enum { STORE_FORMAT = 4, STORE_FORMAT_TABLES = 5 };
 
 enum store_use { STORE_READ, STORE_WRITE, STORE_VERIFY };
 

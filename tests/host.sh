@@ -10,11 +10,11 @@ version=$(sed -n 's/^#define CRZ_VERSION "\(.*\)"/\1/p' "$here/include/crz.h")
 ends 2 "crz new FILE"
 ends 0 "crz new FILE" --help
 ends 0 "crz new FILE" help
-ends 0 "crz $version, zone format 4, SQLite 3" --version
+ends 0 "crz $version, zone formats 4 and 5, SQLite 3" --version
 for command in new call play show log verify statement due import export; do
     ends 0 "crz $command FILE" help "$command"
     ends 0 "crz $command FILE" "$command" --help
-    ends 0 "crz $version, zone format 4" "$command" --version
+    ends 0 "crz $version, zone formats 4 and 5" "$command" --version
     ends 2 "$command takes FILE" "$command"
 done
 ends 0 "crz new FILE" help --help

@@ -78,7 +78,7 @@ for format in 1 2 3; do # before format 3 the image was shorter
         "update zone set image = cast(substr(image, 1, $length) as blob)"
     before=$(sha256sum older)
     for command in show log verify due; do
-        ends 3 "older: is a zone of the older format $format; this program knows format 4 and leaves the file as it was" \
+        ends 3 "older: is a zone of the older format $format; this program knows formats 4 and 5 and leaves the file" \
             "$command" older
     done
     ends 3 "the program that made it writes its image with 'crz export older IMAGE', and 'crz import ZONE IMAGE' here" \
@@ -87,8 +87,9 @@ for format in 1 2 3; do # before format 3 the image was shorter
     ends 3 "the call was not made" call older day-close
     holds "a zone of format $format stays" test "$before" = "$(sha256sum older)"
 done
-cp a newer && change newer "pragma user_version = 5"
-ends 3 "is a zone of the newer format 5; this program knows format 4 and leaves the file as it was" call newer day-close
+cp a newer && change newer "pragma user_version = 6"
+ends 3 "is a zone of the newer format 6; this program knows formats 4 and 5 and leaves the file as it was" \
+    call newer day-close
 cp a tables && change tables "create table more (x)"
 ends 3 "its tables are not those of a zone" call tables day-close
 cp a cut && truncate -s -4096 cut
@@ -210,6 +211,33 @@ rm out.image
 whole out
 holds "journal and image agree" test $? -eq 0
 holds "no file beside the zone" test "$(echo out*)" = out
+
+# ── A zone's format rises with its first table ──────────────────────────────────────────────────────
+# format ZONE: the number that its header has
+format() {
+    od -An -tu1 -j63 -N1 "$1" | tr -d ' '
+}
+
+"$crz" new formats >/dev/null
+holds "a new zone has format 4" test "$(format formats)" -eq 4
+"$crz" call formats pay-in account 1 fen 5 >/dev/null
+"$crz" play formats forty >/dev/null 2>&1
+holds "calls leave it at 4" test "$(format formats)" -eq 4
+ends 3 "last sequence number is 41, not 40" play formats forty --table --expect 40
+holds "a table that is not made leaves it at 4" test "$(format formats)" -eq 4
+(ulimit -f $(($(stat -c %s formats) / 1024)); "$crz" play formats forty --table >said 2>&1)
+status=$?
+holds "a table that finds no room ends with $status: $(cat said)" test "$status" -eq 3
+ends 0 "total 45 fen" show formats
+holds "a table taken back leaves it at 4" test "$(format formats)" -eq 4
+"$crz" play formats three --table >/dev/null 2>&1
+holds "the first table makes it 5" test "$(format formats)" -eq 5
+"$crz" call formats pay-in account 1 fen 5 >/dev/null
+"$crz" play formats forty --table >/dev/null 2>&1
+holds "and it stays at 5" test "$(format formats)" -eq 5
+ends 0 "replay: 85 calls compared, 43 of them in 3 tables" verify formats
+"$crz" export formats formats.image >/dev/null && "$crz" import formats.new formats.image >/dev/null
+holds "a zone made from its image has format 4" test "$(format formats.new)" -eq 4
 
 # ── Writers wait, with a limit and a message ────────────────────────────────────────────────────────
 "$crz" new held >/dev/null
