@@ -13,6 +13,7 @@ pub use call_tables::Answers;
 pub use call_tables::Record;
 pub use call_tables::answer_field;
 pub use call_tables::put_answer;
+pub use call_tables::put_record;
 pub use call_tables::record_at;
 pub use columns::Book;
 pub use columns::ROWS;

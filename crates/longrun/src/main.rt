@@ -9,6 +9,7 @@ mod runs;
 use ledger_book::ACCOUNTS;
 use ledger_book::LAST_DAY;
 use ledger_book::RECEIPTS;
+use longrun_call_tables::print_call_tables;
 use longrun_calls::EACH_CONTRACT;
 use longrun_calls::NO_OPENING;
 use longrun_calls::ONE_CONTRACT;
@@ -16,7 +17,8 @@ use longrun_calls::Plan;
 use longrun_calls::TO_LIMIT;
 use longrun_counts::Tally;
 use longrun_counts::empty_tally;
-use longrun_tables::print_all;
+use longrun_tables::print_differences;
+use longrun_tables::print_reached;
 
 fn plan(seed: u64, calls: u64, receipts: u64, accounts: u64, closes: u64) -> Plan {
     Plan {
@@ -62,5 +64,7 @@ fn main() {
     small_zones(&mut tally);
     long_answers(&mut tally);
     last_days(&mut tally);
-    print_all(&tally);
+    print_reached(&tally);
+    print_call_tables(&tally);
+    print_differences(&tally);
 }
