@@ -25,11 +25,11 @@ pub fn record_at(calls: &[u8], k: u64) -> Record {
     record
 }
 
+// Puts a record where that call has its own, and likewise an answer.
 pub fn put_record(calls: &mut [u8], k: u64, record: &Page) {
     copy_out(record, calls, product(k, CALL), CALL_LENGTH);
 }
 
-// Puts an answer where that call has its own.
 pub fn put_answer(answers: &mut [u8], k: u64, answer: &Page) {
     copy_out(answer, answers, product(k, ANSWER), ANSWER_LENGTH);
 }

@@ -1,7 +1,8 @@
 // Long runs of calls: the library beside the second ledger (01 Holding 6). Each has an image and an answer buffer of its own; number,
 // whole image and whole answer are compared after every call. Most calls are sensible ones that carry lots through all states. The
 // others are wild (fields at the ends of their ranges, wrong lengths), or meet a copy of the image with one field out of place, with what
-// a lot holds put elsewhere, or with a total about its limit. The fresh entry is compared for buffers of all lengths.
+// a lot holds put elsewhere, or with a total about its limit. Openings, and calls now and then, go in tables; a table is also compared with
+// its calls made one by one. The fresh entry is compared for buffers of all lengths.
 //
 // The last line counts the differences.
 mod runs;

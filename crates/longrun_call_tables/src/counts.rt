@@ -4,6 +4,7 @@ use ledger_book::ANSWER_NUMBER_END;
 use ledger_book::ANSWER_PHASE_END;
 use ledger_book::Answers;
 use ledger_book::ENTRY_COUNT_END;
+use ledger_book::IMAGE_LENGTH;
 use ledger_book::MOST_CALLS;
 use ledger_book::OUTCOME;
 use ledger_book::RECEIPTS;
@@ -18,6 +19,7 @@ use longrun_counts::CALL_TABLES;
 use longrun_counts::COUNTS_OF_REASON;
 use longrun_counts::COUNTS_OF_SIZE;
 use longrun_counts::TABLE_ANSWERS;
+use longrun_counts::TABLE_IMAGES;
 use longrun_counts::TABLE_NUMBERS;
 use longrun_counts::TABLE_OUTCOMES;
 use longrun_counts::TABLE_REASONS;
@@ -61,6 +63,15 @@ fn count_size(t: CallTable, number: u64, bad_image: bool, tally: &mut Tally) {
     }
     let row = product(size_row(calls_in(t)), COUNTS_OF_SIZE);
     add(tally, plus(TABLE_SIZES, plus(row, column)), 1);
+}
+
+// A table that was taken, on an image of which each call says that it is bad.
+fn count_bad_image(t: CallTable, tally: &mut Tally) {
+    if t.image_length == IMAGE_LENGTH as u64 {
+        add(tally, TABLE_IMAGES + 1, 1);
+    } else {
+        add(tally, TABLE_IMAGES, 1);
+    }
 }
 
 fn reason_row(found: u64) -> u64 {
@@ -171,6 +182,9 @@ pub fn count_table(
     }
     if (number == 0) & goes_on(calls_in(t), answers) {
         add(tally, ACCEPTED_BEHIND, 1);
+    }
+    if (number == 0) & bad_image & (calls_in(t) != 0) {
+        count_bad_image(t, tally);
     }
     show(
         b"difference at a table of calls after call ",

@@ -3,6 +3,7 @@ use ledger_book::MOST_CALLS;
 use ledger_book::plus;
 use longrun_counts::ACCEPTED_BEHIND;
 use longrun_counts::ANSWER_CLASSES;
+use longrun_counts::BAD_IMAGES;
 use longrun_counts::CALL_TABLES;
 use longrun_counts::CALL_TABLES_END;
 use longrun_counts::COUNTS_OF_REASON;
@@ -12,6 +13,7 @@ use longrun_counts::REASON_ROWS;
 use longrun_counts::RESTS;
 use longrun_counts::SIZE_ROWS;
 use longrun_counts::TABLE_ANSWERS;
+use longrun_counts::TABLE_IMAGES;
 use longrun_counts::TABLE_NUMBERS;
 use longrun_counts::TABLE_OUTCOMES;
 use longrun_counts::TABLE_REASONS;
@@ -68,6 +70,14 @@ fn print_sizes(tally: &Tally) {
     );
 }
 
+fn print_images(tally: &Tally) {
+    io::write_all(
+        1,
+        b"taken with calls on a bad image: of another length, not valid\n",
+    );
+    unnamed(tally, TABLE_IMAGES, BAD_IMAGES - 1);
+}
+
 fn print_reasons(tally: &Tally) {
     io::write_all(
         1,
@@ -97,6 +107,7 @@ fn print_answers(tally: &Tally) {
 pub fn print_call_tables(tally: &Tally) {
     line(b"tables of calls driven: ", counted(tally, CALL_TABLES));
     print_sizes(tally);
+    print_images(tally);
     print_reasons(tally);
     print_answers(tally);
     line(

@@ -141,8 +141,13 @@ pub const SIZE_ROWS: u64 = 5;
 
 pub const COUNTS_OF_SIZE: u64 = 4;
 
+// Those taken with calls on a bad image: one of another length, one that is not valid.
+pub const TABLE_IMAGES: u64 = TABLE_SIZES + SIZE_ROWS * COUNTS_OF_SIZE;
+
+pub const BAD_IMAGES: u64 = 2;
+
 // Those refused, by reason: too many calls, a record cut short, answers too short, several of these. Of each: on a valid image, on a bad one.
-pub const TABLE_REASONS: u64 = TABLE_SIZES + SIZE_ROWS * COUNTS_OF_SIZE;
+pub const TABLE_REASONS: u64 = TABLE_IMAGES + BAD_IMAGES;
 
 pub const REASON_ROWS: u64 = 4;
 

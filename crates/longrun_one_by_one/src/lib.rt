@@ -15,7 +15,9 @@ use longrun_call_tables::table_of;
 use longrun_calls::Plan;
 use longrun_calls::opening_calls;
 use longrun_counts::Tally;
+use longrun_counts::Verdict;
 use longrun_counts::count_call;
+use longrun_counts::show;
 use longrun_draws::CallTable;
 use longrun_draws::Request;
 use longrun_draws::calls_in;
@@ -30,7 +32,30 @@ use longrun_wild::alter;
 
 // ── Calls by themselves ─────────────────────────────────────────────────────────────────────────
 
-// The table's call with this number. On an altered image it does not count as a call.
+// The counts of a call; on an altered image it is only shown where both sides differ.
+fn count_alone(
+    altered: bool,
+    q: Request,
+    v: Verdict,
+    before: &Page,
+    image: &Page,
+    answer: &Page,
+    tally: &mut Tally,
+) {
+    if altered {
+        show(
+            b"difference at an altered image after call ",
+            b"  kind ",
+            q.kind % 256,
+            v,
+            tally,
+        );
+        return;
+    }
+    count_call(q, v, before, image, answer, tally);
+}
+
+// The table's call with this number.
 fn make_alone(
     q: Request,
     altered: bool,
@@ -47,9 +72,7 @@ fn make_alone(
     let v = drive(q, image, &mut second, &mut answer);
     put_record(calls, k, &record);
     put_answer(answers, k, &answer);
-    if !altered {
-        count_call(q, v, &before, image, &answer, tally);
-    }
+    count_alone(altered, q, v, &before, image, &answer, tally);
 }
 
 // Each is drawn by the image that it will find; the first of them is the run's call `first`.
