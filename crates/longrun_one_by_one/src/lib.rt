@@ -32,7 +32,7 @@ use longrun_wild::alter;
 
 // ── Calls by themselves ─────────────────────────────────────────────────────────────────────────
 
-// The counts of a call; on an altered image it is only shown where both sides differ.
+// On an altered image a call is not counted, only shown where both sides differ.
 fn count_alone(
     altered: bool,
     q: Request,
@@ -55,7 +55,7 @@ fn count_alone(
     count_call(q, v, before, image, answer, tally);
 }
 
-// The table's call with this number.
+// The table's call with this number, made by itself; its record and its answer go to their places.
 fn make_alone(
     q: Request,
     altered: bool,
@@ -75,7 +75,7 @@ fn make_alone(
     count_alone(altered, q, v, &before, image, &answer, tally);
 }
 
-// Each is drawn by the image that it will find; the first of them is the run's call `first`.
+// Each is the run's next call from number `first` on, drawn by the image that it will find where the opening has none.
 fn make_each_alone(
     seed: &mut u64,
     plan: Plan,

@@ -51,7 +51,7 @@ pub fn at_most(length: usize, most: usize) -> usize
     if length < most { length } else { most }
 }
 
-// The entries with three buffers.
+// The entries with three buffers: image, one or several call records, as many answers.
 pub const LIBRARY_CALL: u64 = 0;
 
 pub const LEDGER_CALL: u64 = 1;
