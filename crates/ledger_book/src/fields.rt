@@ -8,7 +8,7 @@ fn wide(x: u8) -> u64 {
     x as u64
 }
 
-fn byte(s: &[u8], at: u64) -> u64 {
+pub fn byte(s: &[u8], at: u64) -> u64 {
     let k = at as usize;
     if k < s.len() {
         return wide(s[k]);
@@ -63,16 +63,18 @@ pub fn set_page_cell(page: &mut Page, column: u64, row: u64, value: u64) {
 }
 
 // Past the end of the page or of the buffer nothing is copied.
-fn copy_byte(page: &Page, buffer: &mut [u8], at: usize) {
-    if at < PAGE_LENGTH {
-        if at < buffer.len() {
-            buffer[at] = page[at];
+fn copy_byte(page: &Page, from: usize, buffer: &mut [u8], to: usize) {
+    if from < PAGE_LENGTH {
+        if to < buffer.len() {
+            buffer[to] = page[from];
         }
     }
 }
 
-pub fn copy_out(page: &Page, buffer: &mut [u8], count: usize) {
+// The first `count` bytes of a page, to the buffer's place `start` and on.
+pub fn copy_out(page: &Page, buffer: &mut [u8], start: u64, count: usize) {
     for k in 0..count {
-        copy_byte(page, buffer, k);
+        let at = plus(start, k as u64) as usize;
+        copy_byte(page, k, buffer, at);
     }
 }

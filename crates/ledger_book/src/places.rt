@@ -1,4 +1,5 @@
-// Where each field stands in an image (01 Image 1 to 4, 02 2/12), in a call record (01 Calls 2) and in an answer (01 Answers 1 and 3).
+// Where each field stands in an image (01 Image 1 to 4, 02 2/12), in a call record (01 Calls 2) and in an answer (01 Answers 1 and 3);
+// and how many calls a table has (02 5/12).
 //
 // No other file of the second ledger or of the long runs says a length, a start or a size. A field is known by where it ends in its
 // record; it starts where the one before it ends. The lengths of records and buffers and the starts of tables follow. The fields of an
@@ -160,6 +161,16 @@ const NUMBER_END: u64 = TO_END + U32;
 pub const ENTRY_LENGTH: u64 = NUMBER_END;
 
 pub const ANSWER_LENGTH: usize = (ANSWER_HEADER + RECEIPTS * ENTRY_LENGTH) as usize;
+
+// ── The table of calls ──────────────────────────────────────────────────────────────────────────
+
+pub const MOST_CALLS: u64 = 32;
+
+// The runs also draw tables with too many calls. Their buffer for answers has room for these too, so that their number alone is wrong.
+pub const SPARE_CALLS: u64 = 4;
+
+pub const ANSWERS_LENGTH: usize = ((MOST_CALLS + SPARE_CALLS) as usize) * ANSWER_LENGTH
+    + SPARE_LENGTH;
 
 // ── Columns ─────────────────────────────────────────────────────────────────────────────────────
 

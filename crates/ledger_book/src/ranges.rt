@@ -7,7 +7,10 @@ pub const LAST_KIND: u64 = 15;
 
 pub const LAST_OUTCOME: u64 = 15;
 
+// The last number of a call. A table of calls has one more of its own (02 5/12).
 pub const LAST_NUMBER: u64 = 13;
+
+pub const BAD_TABLE: u64 = 14;
 
 pub const LAST_DAY: u64 = 30000;
 

@@ -87,5 +87,5 @@ pub fn write_image(book: &mut Book, image: &mut [u8]) {
     free_all(book);
     freeze_lots(book);
     write_columns(book, &mut page);
-    copy_out(&page, image, IMAGE_LENGTH);
+    copy_out(&page, image, 0, IMAGE_LENGTH);
 }

@@ -1,7 +1,8 @@
 // Long runs of calls: the library beside the second ledger (01 Holding 6). Each has an image and an answer buffer of its own; number,
 // whole image and whole answer are compared after every call. Most calls are sensible ones that carry lots through all states. The
 // others are wild (fields at the ends of their ranges, wrong lengths), or meet a copy of the image with one field out of place, with what
-// a lot holds put elsewhere, or with a total about its limit. The fresh entry is compared for buffers of all lengths.
+// a lot holds put elsewhere, or with a total about its limit. Openings, and calls now and then, go in tables; a table is also compared with
+// its calls made one by one. The fresh entry is compared for buffers of all lengths.
 //
 // The last line counts the differences.
 mod runs;
@@ -9,6 +10,7 @@ mod runs;
 use ledger_book::ACCOUNTS;
 use ledger_book::LAST_DAY;
 use ledger_book::RECEIPTS;
+use longrun_call_tables::print_call_tables;
 use longrun_calls::EACH_CONTRACT;
 use longrun_calls::NO_OPENING;
 use longrun_calls::ONE_CONTRACT;
@@ -16,7 +18,8 @@ use longrun_calls::Plan;
 use longrun_calls::TO_LIMIT;
 use longrun_counts::Tally;
 use longrun_counts::empty_tally;
-use longrun_tables::print_all;
+use longrun_tables::print_differences;
+use longrun_tables::print_reached;
 
 fn plan(seed: u64, calls: u64, receipts: u64, accounts: u64, closes: u64) -> Plan {
     Plan {
@@ -62,5 +65,7 @@ fn main() {
     small_zones(&mut tally);
     long_answers(&mut tally);
     last_days(&mut tally);
-    print_all(&tally);
+    print_reached(&tally);
+    print_call_tables(&tally);
+    print_differences(&tally);
 }

@@ -6,8 +6,6 @@ use ledger_book::Page;
 use ledger_book::ZONE;
 use ledger_book::set_page_cell;
 use longrun_calls::Plan;
-use longrun_calls::opening_call;
-use longrun_calls::opening_calls;
 use longrun_calls::sensible;
 use longrun_counts::Tally;
 use longrun_counts::count_altered;
@@ -15,6 +13,8 @@ use longrun_counts::count_call;
 use longrun_counts::count_fresh;
 use longrun_draws::Request;
 use longrun_draws::below;
+use longrun_one_by_one::make_some_table;
+use longrun_one_by_one::open;
 use longrun_sides::agree_on_fresh;
 use longrun_sides::drive;
 use longrun_sides::filled;
@@ -59,6 +59,10 @@ fn next_call(seed: &mut u64, plan: Plan, image: &mut Page, second: &mut Page, ta
         judge_altered(seed, plan, image, tally);
         return;
     }
+    if draw >= 98 {
+        make_some_table(seed, plan, image, second, tally);
+        return;
+    }
     let mut q = sensible(seed, plan, image);
     if draw < 24 {
         q = make_wild(seed, q);
@@ -66,17 +70,10 @@ fn next_call(seed: &mut u64, plan: Plan, image: &mut Page, second: &mut Page, ta
     make(q, image, second, tally);
 }
 
-fn open(opening: u64, image: &mut Page, second: &mut Page, tally: &mut Tally) {
-    for k in 0..opening_calls(opening) {
-        make(opening_call(opening, k), image, second, tally);
-    }
-}
-
-fn make_calls(plan: Plan, image: &mut Page, second: &mut Page, tally: &mut Tally) {
-    let mut seed = plan.seed;
+fn make_calls(seed: &mut u64, plan: Plan, image: &mut Page, second: &mut Page, tally: &mut Tally) {
     let calls = plan.calls;
     for k in 0..calls {
-        next_call(&mut seed, plan, image, second, tally);
+        next_call(seed, plan, image, second, tally);
     }
 }
 
@@ -87,6 +84,7 @@ pub fn run(plan: Plan, tally: &mut Tally) {
     make_fresh(IMAGE_LENGTH, &mut image, &mut second, tally);
     set_page_cell(&mut image, DAY, ZONE, plan.day);
     set_page_cell(&mut second, DAY, ZONE, plan.day);
-    open(plan.opening, &mut image, &mut second, tally);
-    make_calls(plan, &mut image, &mut second, tally);
+    let mut seed = plan.seed;
+    open(&mut seed, plan, &mut image, &mut second, tally);
+    make_calls(&mut seed, plan, &mut image, &mut second, tally);
 }

@@ -176,14 +176,14 @@ fn count_difference(tally: &mut Tally) -> bool {
     counted(tally, DIFFERENCES) <= 5
 }
 
-// After how many calls of all runs, the kind as the record has it, and both numbers.
-fn show(words: &[u8], kind: u64, v: Verdict, tally: &mut Tally) {
+// After how many calls of all runs, something told of what was made, and both numbers.
+pub fn show(words: &[u8], told: &[u8], value: u64, v: Verdict, tally: &mut Tally) {
     if v.agree {
         return;
     }
     if count_difference(tally) {
         line(words, counted(tally, CALLS));
-        line(b"  kind ", kind % 256);
+        line(told, value);
         line(b"  number of the library ", v.of_library);
         line(b"  number of the ledger ", v.of_ledger);
     }
@@ -220,7 +220,7 @@ pub fn count_call(
     if (number == 0) & (q.kind == 14) {
         count_part(q, before, answer, tally);
     }
-    show(b"difference at call ", q.kind, v, tally);
+    show(b"difference at call ", b"  kind ", q.kind % 256, v, tally);
 }
 
 // Apart from the others: what an altered image answers says little of how often a rule is reached. `sound` is the image before it was
@@ -238,7 +238,8 @@ pub fn count_altered(q: Request, v: Verdict, sound: &Page, altered: &Page, tally
     }
     show(
         b"difference at an altered image after call ",
-        q.kind,
+        b"  kind ",
+        q.kind % 256,
         v,
         tally,
     );

@@ -1,4 +1,5 @@
 // What all runs have reached, counted: one row of numbers, with these parts one behind another.
+use ledger_book::CALL_LENGTH;
 use ledger_book::CONTRACTS;
 use ledger_book::LAST_KIND;
 use ledger_book::LAST_NUMBER;
@@ -128,7 +129,48 @@ pub const VALID_IMAGES: u64 = REFUSED_IMAGES + 1;
 // Buffers given to the fresh entry.
 pub const FRESH: u64 = VALID_IMAGES + 1;
 
-const TALLY_LENGTH: usize = (FRESH + 1) as usize;
+// Tables of calls: all of them, and those in which an accepted call stands behind a refused one.
+pub const CALL_TABLES: u64 = FRESH + 1;
+
+pub const ACCEPTED_BEHIND: u64 = CALL_TABLES + 1;
+
+// By their calls: none, one, fewer than the most, the most, more. Of each: taken, taken on a bad image, refused, refused on a bad image.
+pub const TABLE_SIZES: u64 = ACCEPTED_BEHIND + 1;
+
+pub const SIZE_ROWS: u64 = 5;
+
+pub const COUNTS_OF_SIZE: u64 = 4;
+
+// Those taken with calls on a bad image: one of another length, one that is not valid.
+pub const TABLE_IMAGES: u64 = TABLE_SIZES + SIZE_ROWS * COUNTS_OF_SIZE;
+
+pub const BAD_IMAGES: u64 = 2;
+
+// Those refused, by reason: too many calls, a record cut short, answers too short, several of these. Of each: on a valid image, on a bad one.
+pub const TABLE_REASONS: u64 = TABLE_IMAGES + BAD_IMAGES;
+
+pub const REASON_ROWS: u64 = 4;
+
+pub const COUNTS_OF_REASON: u64 = 2;
+
+// Those refused for a record cut short alone, by its bytes, from 1 on.
+pub const TABLE_RESTS: u64 = TABLE_REASONS + REASON_ROWS * COUNTS_OF_REASON;
+
+pub const RESTS: u64 = CALL_LENGTH as u64 - 1;
+
+// Those with calls and no other reason, by the bytes for answers: more than one byte too few, one, none, less than an answer to spare, more.
+pub const TABLE_ANSWERS: u64 = TABLE_RESTS + RESTS;
+
+pub const ANSWER_CLASSES: u64 = 5;
+
+// Calls in tables that were taken, by number, and the entries of their answers by outcome, from 1 on.
+pub const TABLE_NUMBERS: u64 = TABLE_ANSWERS + ANSWER_CLASSES;
+
+pub const TABLE_OUTCOMES: u64 = TABLE_NUMBERS + NUMBERS;
+
+pub const CALL_TABLES_END: u64 = TABLE_OUTCOMES + LAST_OUTCOME;
+
+const TALLY_LENGTH: usize = CALL_TABLES_END as usize;
 
 pub type Tally = [u64; TALLY_LENGTH];
 

@@ -1,10 +1,19 @@
 // What the long runs draw from a seed: numbers, parties, prices, premiums and weights, pay-ins and take-outs; and money that is moved from where a lot holds it.
+mod call_tables;
 mod choices;
 mod draws;
 mod held;
 mod money;
 mod requests;
 
+pub use call_tables::ANSWERS_TOO_SHORT;
+pub use call_tables::CallTable;
+pub use call_tables::RECORD_CUT_SHORT;
+pub use call_tables::TOO_MANY_CALLS;
+pub use call_tables::answers_wanted;
+pub use call_tables::calls_in;
+pub use call_tables::reasons;
+pub use call_tables::rest_of;
 pub use choices::near_price;
 pub use choices::party;
 pub use choices::price_beside;

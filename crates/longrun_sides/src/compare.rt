@@ -26,7 +26,7 @@ use longrun_draws::Request;
 // ── The call on each side ───────────────────────────────────────────────────────────────────────
 
 // The call record; bytes past it are zero.
-fn record_of(q: Request) -> Page {
+pub fn record_of(q: Request) -> Page {
     let mut record: Page = empty_page();
     put_field(&mut record, 0, CALL_KIND_END, q.kind);
     put_field(&mut record, CALL_KIND_END, CALL_ACCOUNT_END, q.account);
@@ -51,17 +51,27 @@ pub fn at_most(length: usize, most: usize) -> usize
     if length < most { length } else { most }
 }
 
-// The number of the library, or else of the ledger.
-fn call_lent(library: bool, image: &mut [u8], record: &[u8], answer: &mut [u8]) -> u64 {
-    if library {
-        return wide(crz::crz_call(image, record, answer));
+// The entries with three buffers: image, one or several call records, as many answers.
+pub const LIBRARY_CALL: u64 = 0;
+
+pub const LEDGER_CALL: u64 = 1;
+
+pub const LIBRARY_TABLE: u64 = 2;
+
+pub const LEDGER_TABLE: u64 = 3;
+
+fn call_lent(entry: u64, image: &mut [u8], record: &[u8], answer: &mut [u8]) -> u64 {
+    match entry {
+        LIBRARY_CALL => wide(crz::crz_call(image, record, answer)),
+        LEDGER_CALL => ledger::call(image, record, answer),
+        LIBRARY_TABLE => wide(crz::crz_table(image, record, answer)),
+        _ => ledger::table(image, record, answer),
     }
-    ledger::call(image, record, answer)
 }
 
 // The same, with so many bytes of each buffer lent.
-fn lend(
-    library: bool,
+pub fn lend(
+    entry: u64,
     image: &mut [u8],
     image_length: usize,
     record: &[u8],
@@ -73,22 +83,16 @@ fn lend(
     let call_end = at_most(call_length, record.len());
     let answer_end = at_most(answer_length, answer.len());
     call_lent(
-        library,
+        entry,
         &mut image[..image_end],
         &record[..call_end],
         &mut answer[..answer_end],
     )
 }
 
-fn lend_pages(
-    library: bool,
-    q: Request,
-    image: &mut Page,
-    record: &Page,
-    answer: &mut Page,
-) -> u64 {
+fn lend_pages(entry: u64, q: Request, image: &mut Page, record: &Page, answer: &mut Page) -> u64 {
     lend(
-        library,
+        entry,
         image,
         q.image_length as usize,
         record,
@@ -117,8 +121,8 @@ pub fn drive(q: Request, image: &mut Page, second: &mut Page, answer: &mut Page)
     let before: Page = *image;
     let record: Page = record_of(q);
     let mut other: Page = filled();
-    let number = lend_pages(true, q, image, &record, answer);
-    let of_ledger = lend_pages(false, q, second, &record, &mut other);
+    let number = lend_pages(LIBRARY_CALL, q, image, &record, answer);
+    let of_ledger = lend_pages(LEDGER_CALL, q, second, &record, &mut other);
     let alike = same(image, second) & same(answer, &other);
     let untouched = left_alone(number, &before, image, answer);
     let agree = (number == of_ledger) & (number <= LAST_NUMBER) & alike & untouched;

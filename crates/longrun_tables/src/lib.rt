@@ -2,4 +2,7 @@
 mod edges;
 mod rows;
 
-pub use rows::print_all;
+pub use rows::numbered_rows;
+pub use rows::print_differences;
+pub use rows::print_reached;
+pub use rows::row;

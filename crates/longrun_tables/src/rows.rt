@@ -62,7 +62,7 @@ fn aligned(value: u64) {
 }
 
 // A row of counts from `place` on, behind its name.
-fn row(tally: &Tally, name: u64, place: u64, width: u64) {
+pub fn row(tally: &Tally, name: u64, place: u64, width: u64) {
     aligned(name);
     for k in 0..width {
         aligned(counted(tally, plus(place, k)));
@@ -71,7 +71,7 @@ fn row(tally: &Tally, name: u64, place: u64, width: u64) {
 }
 
 // Rows one behind another, named from `first` on.
-fn rows(tally: &Tally, first: u64, end: u64, place: u64, width: u64) {
+pub fn numbered_rows(tally: &Tally, first: u64, end: u64, place: u64, width: u64) {
     for name in first..end {
         let from = plus(place, product(minus(name, first), width));
         row(tally, name, from, width);
@@ -130,7 +130,7 @@ fn print_pairs(tally: &Tally) {
         b"by kind (the last row: all kinds above) and number returned\n",
     );
     numbers_row();
-    rows(tally, 0, KIND_ROWS, pair(0, 0), NUMBERS);
+    numbered_rows(tally, 0, KIND_ROWS, pair(0, 0), NUMBERS);
     line(
         b"pairs that document 01 allows and no call reached: ",
         unexpected_pairs(tally, true),
@@ -148,7 +148,7 @@ fn print_entries(tally: &Tally) {
         1,
         b"contracts: listings, bids, quotes, lots struck, quotes that struck two or more, of these at one price, at different prices, at both\n",
     );
-    rows(
+    numbered_rows(
         tally,
         1,
         CONTRACTS + 1,
@@ -159,7 +159,7 @@ fn print_entries(tally: &Tally) {
         1,
         b"entries by outcome (the last row: last part payments): all, by premium -5000, below 0, 0, above 0, 5000\n",
     );
-    rows(
+    numbered_rows(
         tally,
         1,
         LAST_PAYMENT + 1,
@@ -257,7 +257,7 @@ fn print_parts(tally: &Tally) {
         1,
         b"confirmed invoices (the second row: a lot's last): all, of 1 fen, after others, paid nothing, their share, one fen more, else\n",
     );
-    rows(tally, 1, 3, PARTS, COUNTS_OF_PART);
+    numbered_rows(tally, 1, 3, PARTS, COUNTS_OF_PART);
     io::write_all(
         1,
         b"paid put into a trade beside what it must be, something confirmed: calls, accepted, refused by 2\n",
@@ -276,12 +276,12 @@ fn print_holders(tally: &Tally) {
         b"what a lot holds put elsewhere, by its state (the last row: lot 128): frozen from the seller, from the account before, free;\n",
     );
     io::write_all(1, b"of each: calls, accepted, refused by 2\n");
-    rows(tally, 2, HOLDER_ROWS + 2, HELD_SUMS, COUNTS_OF_HOLDER);
+    numbered_rows(tally, 2, HOLDER_ROWS + 2, HELD_SUMS, COUNTS_OF_HOLDER);
 }
 
 // ── All ─────────────────────────────────────────────────────────────────────────────────────────
 
-pub fn print_all(tally: &Tally) {
+pub fn print_reached(tally: &Tally) {
     print_pairs(tally);
     print_entries(tally);
     print_limits(tally);
@@ -302,6 +302,9 @@ pub fn print_all(tally: &Tally) {
         counted(tally, VALID_IMAGES),
     );
     line(b"buffers given to the fresh entry: ", counted(tally, FRESH));
+}
+
+pub fn print_differences(tally: &Tally) {
     io::print_decimal(1, counted(tally, DIFFERENCES));
     io::write_all(1, b" differences\n");
 }

@@ -28,7 +28,8 @@ use longrun_draws::percent;
 use longrun_draws::raise_cell;
 use misplaced::misplace;
 pub use odd::make_wild;
-use odd::odd_field;
+pub use odd::odd_field;
+pub use odd::odd_length;
 
 // ── A total about its limit ─────────────────────────────────────────────────────────────────────
 

@@ -106,7 +106,7 @@ pub fn odd_field(seed: &mut u64, known: Request) -> Request {
 }
 
 // One byte too few or too many, or any length up to that of the right one with the spare bytes of a page.
-fn odd_length(seed: &mut u64, right: usize) -> u64 {
+pub fn odd_length(seed: &mut u64, right: usize) -> u64 {
     let length = right as u64;
     let draw = below(seed, 4);
     match draw {

@@ -102,7 +102,7 @@ pub fn limit_in_zone(seed: &mut u64, column: u64) -> u64 {
 }
 
 fn other_value(seed: &mut u64, old: u64, limit: u64) -> u64 {
-    let draw = below(seed, 8);
+    let draw = below(seed, 10);
     match draw {
         0 => plus(old, 1),
         1 => minus(old, 1),

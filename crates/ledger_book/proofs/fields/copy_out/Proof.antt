@@ -6,13 +6,16 @@ use Rattle.ledger_book.proofs.fields.copy_out.Statement.{statement}
 use Rattle.ledger_book.proofs.fields.copy_out.Tie as tie
 
 abbrev Inv-loop : tie.InvT-loop
-Inv-loop page buffer₀ count k₀ buffer k = length buffer ≡ length buffer₀
+Inv-loop page buffer₀ start count k₀ buffer k = length buffer ≡ length buffer₀
 
 abbrev μ-loop : tie.MeasureT-loop
-μ-loop page buffer₀ count k₀ buffer k = left k
+μ-loop page buffer₀ start count k₀ buffer k = left k
 
 loop-holds : tie.Need-loop-holds Inv-loop μ-loop
 loop-holds c = search needs
+
+plus-requires : tie.Need-plus-requires Inv-loop μ-loop
+plus-requires c κs = search needs
 
 copy-byte-requires : tie.Need-copy-byte-requires Inv-loop μ-loop
 copy-byte-requires c κs = search needs
@@ -39,6 +42,7 @@ copy-out-spec =
     Inv-loop
     μ-loop
     loop-holds
+    plus-requires
     copy-byte-requires
     add-k
     loop-less

@@ -4,10 +4,10 @@ use Rattle.longrun.proofs.runs.make_calls.Statement.{statement}
 use Rattle.longrun.proofs.runs.make_calls.Tie as tie
 
 abbrev Inv-loop : tie.InvT-loop
-Inv-loop plan image₀ second₀ tally₀ seed₀ calls k₀ image second tally seed k = Unit {0}
+Inv-loop seed₀ plan image₀ second₀ tally₀ calls k₀ seed image second tally k = Unit {0}
 
 abbrev μ-loop : tie.MeasureT-loop
-μ-loop plan image₀ second₀ tally₀ seed₀ calls k₀ image second tally seed k = left k
+μ-loop seed₀ plan image₀ second₀ tally₀ calls k₀ seed image second tally k = left k
 
 loop-holds : tie.Need-loop-holds Inv-loop μ-loop
 loop-holds c = search needs

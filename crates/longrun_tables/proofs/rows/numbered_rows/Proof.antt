@@ -1,7 +1,7 @@
 use borrow.Author.Needs.{needs}
 use Rattle.ledger_book.specs.Loops.{left}
-use Rattle.longrun_tables.proofs.rows.rows.Statement.{statement}
-use Rattle.longrun_tables.proofs.rows.rows.Tie as tie
+use Rattle.longrun_tables.proofs.rows.numbered_rows.Statement.{statement}
+use Rattle.longrun_tables.proofs.rows.numbered_rows.Tie as tie
 
 abbrev Inv-loop : tie.InvT-loop
 Inv-loop tally first end place width name₀ name = Unit {0}
@@ -36,8 +36,8 @@ loop-again c = search needs
 returns : tie.Need-returns Inv-loop μ-loop
 returns c = search needs
 
-pub rows-spec : {M : Type 1} → statement M
-rows-spec =
+pub numbered-rows-spec : {M : Type 1} → statement M
+numbered-rows-spec =
     tie.close
     (tie.spec
     Inv-loop
