@@ -1,2 +1,4 @@
+pub mod Runs
+pub mod Entries
 pub mod Answer
 pub mod ReadBack
