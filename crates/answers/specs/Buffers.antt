@@ -3,7 +3,6 @@
 -- Assumes nothing.
 use mathlib.Core.Bool.{Bool, cond}
 use mathlib.Core.List.{List, [], _∷_, _++_}
-use mathlib.Core.Path.{_≡_}
 use Prim.Native.Nat.{ℕ, zero, suc, _+_, _-_, _*_, _/_}
 use lib.Dec.{eqb}
 use lib.IntN.{pos}
@@ -199,6 +198,6 @@ entriesFrom k (suc n) answer = entryAt answer k ∷ entriesFrom (suc k) n answer
 abbrev pub withEntries : ℕ → List Entry → List ℕ → List ℕ
 withEntries k es answer = sets answer (entryPlace k) (tableBytes entryBytes es)
 
--- these entries were put behind the header of an answer, and counted
-abbrev pub Listed : List Entry → List ℕ → ℕ → List ℕ → Type 0
-Listed es answer count answer′ = (count ≡ length es) × (answer′ ≡ withEntries 0 es answer)
+-- how many entries were put behind the header of an answer, and the answer then
+abbrev pub listed : List Entry → List ℕ → ℕ × List ℕ
+listed es answer = (length es, withEntries 0 es answer)

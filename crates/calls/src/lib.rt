@@ -1,18 +1,17 @@
 // What an accepted call does in an image, part by part.
 ghost use mathlib.Core.Bool.{true};
-ghost use mathlib.Core.List.{_++_};
 ghost use mathlib.Core.Path.{_≡_};
 ghost use Prim.Native.Nat.{_≤_};
-ghost use lib.ListN.{take, drop};
+ghost use lib.ListN.{length};
 ghost use Rattle.units.specs.Ranges.{receiptCount};
 ghost use Rattle.zone.specs.Valid.{validZone};
 ghost use Rattle.image.specs.Image.{validImage, decode, encode, Encoded, Fits};
 ghost use Rattle.rules.specs.declared.Step.the-variants.{Accepted};
 ghost use Rattle.rules.specs.Effects.{opening, ending, sweeps, ruleAt, effect};
-ghost use Rattle.rules.specs.EntryArray.{entryArray};
 ghost use Rattle.rules.specs.Events.{afterLot, sweep};
 ghost use Rattle.rules.specs.Order.{answerOrder};
 ghost use Rattle.rules.specs.Steps.{stepOn, numberOn};
+ghost use Rattle.answers.specs.Buffers.{answerLength, entriesFrom, withEntries, listed};
 ghost use Rattle.events.specs.Posting.{CanPost};
 use rules::AtLot;
 use rules::Call;
@@ -35,8 +34,10 @@ fn sweeps(c: Call) -> bool
     (kind == KIND_QUOTE) | (kind == KIND_MORNING_CLOSE) | (kind == KIND_DAY_CLOSE)
 }
 
-// Lots that the call does not concern are passed over. Returns how many entries were put into the answer.
+// Lots that the call does not concern are passed over. Returns how many entries it has put into the answer.
 fn sweep_lots(image: &mut [u8], c: Call, answer: &mut [u8]) -> usize
+    requires { ⌜ Encoded (now image) × (validZone (decode (now image)) ≡ true) × (sweeps (c .kind) ≡ true) × (answerLength ≤ length (now answer)) ⌝ }
+    ensures { λ r. ⌜ (now (image .exit) ≡ encode (sweep (ruleAt c) receiptCount 1 (decode (now (image .entry))) .zone)) × ((r, now (answer .exit)) ≡ listed (sweep (ruleAt c) receiptCount 1 (decode (now (image .entry))) .entries) (now (answer .entry))) ⌝ }
 {
     let mut count: usize = 0;
     let mut i = lots::next_concerned(image, c, 0);
@@ -58,6 +59,8 @@ fn sweep_lots(image: &mut [u8], c: Call, answer: &mut [u8]) -> usize
 
 // What a call did at its receipt: an event is posted, and is the one entry.
 fn post_one(image: &mut [u8], at: AtLot, answer: &mut [u8]) -> usize
+    requires { ⌜ Encoded (now image) × CanPost (decode (now image)) at × (answerLength ≤ length (now answer)) ⌝ }
+    ensures { λ r. ⌜ (now (image .exit) ≡ encode (afterLot (decode (now (image .entry))) at .zone)) × ((r, now (answer .exit)) ≡ listed (afterLot (decode (now (image .entry))) at .entries) (now (answer .entry))) ⌝ }
 {
     match at {
         AtLot::Event(e, r) => {
@@ -116,6 +119,8 @@ fn end_call(image: &mut [u8], c: Call)
 
 // A quote lists its strikes by price; every other call has its entries as the lots were visited.
 fn answer_order(c: Call, answer: &mut [u8], count: usize)
+    requires { ⌜ (answerLength ≤ length (now answer)) × (count ≤ receiptCount) ⌝ }
+    ensures { λ _. ⌜ now (answer .exit) ≡ withEntries 0 (answerOrder (c .kind) (entriesFrom 0 count (now (answer .entry)))) (now (answer .entry)) ⌝ }
 {
     let kind = c.kind;
     if kind == KIND_QUOTE {
@@ -125,8 +130,10 @@ fn answer_order(c: Call, answer: &mut [u8], count: usize)
 
 // ── The whole call ──────────────────────────────────────────────────────────────────────────────
 
-// What an accepted call does, where `at` is what it does at the receipt that it names.
+// What an accepted call does, where `at` is what it does at the receipt that it names. Returns how many entries the answer has.
 pub fn perform(image: &mut [u8], c: Call, at: AtLot, answer: &mut [u8]) -> usize
+    requires { ⌜ (validImage (now image) ≡ true) × (stepOn (decode (now image)) c ≡ Accepted at) × (answerLength ≤ length (now answer)) ⌝ }
+    ensures { λ r. ⌜ (now (image .exit) ≡ encode (effect (decode (now (image .entry))) c .zone)) × ((r, now (answer .exit)) ≡ listed (effect (decode (now (image .entry))) c .entries) (now (answer .entry))) ⌝ }
 {
     open_call(image, c);
     let count = if sweeps(c) {
