@@ -1,4 +1,3 @@
-pub mod Runs
 pub mod Entries
 pub mod Answer
 pub mod ReadBack

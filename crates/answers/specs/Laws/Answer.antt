@@ -18,7 +18,7 @@ use Rattle.image.specs.Laws.Places.{put-front}
 use Rattle.image.specs.Laws.Table.{length-tableBytes}
 use Rattle.answers.specs.Buffers.{answerLength, answerHeader, entriesStart, entryLength, entryBytes, headerOf, acceptedBytes, acceptedAnswer, padded, withEntries}
 use Rattle.answers.specs.Laws.Entries.{entry-wide}
-use Rattle.answers.specs.Laws.Runs.{runs-apart}
+use Rattle.wire.specs.Laws.Runs.{runs-apart}
 
 drop-replicate : (n m : ℕ) (x : ℕ) → n ≤ m → drop n (replicate m x) ≡ replicate (m - n) x
 drop-replicate zero m x h = rw sub-zero

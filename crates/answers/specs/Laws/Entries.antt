@@ -4,7 +4,7 @@ use mathlib.Core.List.{List, [], _∷_, _++_, append-nil}
 use mathlib.Core.Path.{_≡_, refl, sym, ap, _∙_}
 use Prim.Native.Nat.{ℕ, zero, suc, _+_, _-_, _*_, _^_, _≤_, _<_}
 use native.Mathlib.Omega.{arith}
-use lib.ListN.{length, take, drop, getD, length-drop}
+use lib.ListN.{length, take, drop, length-drop}
 use lib.Seq.{sets, length-sets, length-take-le, take-all, take-add, drop-drop}
 use Rattle.wire.specs.LittleEndian.{leAt, leBytes, Bytes}
 use Rattle.wire.specs.Laws.Bytes.{leAt-leBytes, leBytes-leAt, leAt-lt, sets-append}
@@ -13,7 +13,7 @@ use Rattle.image.specs.Table.{tableBytes, runAt}
 use Rattle.image.specs.Laws.Bytes.{bytes-part}
 use Rattle.image.specs.Laws.Table.{leAt-part, tableBytes-append, length-tableBytes}
 use Rattle.answers.specs.Buffers.{entriesStart, entryLength, entryPlace, entryBytes, entryIn, entryAt, entriesFrom, withEntries}
-use Rattle.answers.specs.Laws.Runs.{behind-run, before-run, run-there, run-again, run-over}
+use Rattle.wire.specs.Laws.Runs.{behind-run, before-run, run-there, run-again, run-over}
 
 pub entry-wide : (e : Entry) → length (entryBytes e) ≡ entryLength
 unfolding entryBytes leBytes
@@ -130,9 +130,9 @@ unfolding tableBytes
 put-next es e answer =
     let here : entriesStart + length (tableBytes entryBytes es) ≡ entryPlace (length es) = omega (arith, length-tableBytes entryBytes entryLength entry-wide es) in
     sym (
-      ap (sets answer entriesStart) (tableBytes-append entryBytes es (e ∷ []) ∙ ap (λ (p : List ℕ). tableBytes entryBytes es ++ p) (append-nil (entryBytes e)))
-          ∙ sets-append answer entriesStart (tableBytes entryBytes es) (entryBytes e)
-          ∙ ap (λ (i : ℕ). sets (withEntries 0 es answer) i (entryBytes e)) here
+    ap (sets answer entriesStart) (tableBytes-append entryBytes es (e ∷ []) ∙ ap (λ (p : List ℕ). tableBytes entryBytes es ++ p) (append-nil (entryBytes e)))
+    ∙ sets-append answer entriesStart (tableBytes entryBytes es) (entryBytes e)
+    ∙ ap (λ (i : ℕ). sets (withEntries 0 es answer) i (entryBytes e)) here
     )
 
 -- one more in front of them

@@ -1,13 +1,10 @@
-use mathlib.Core.List.{List, append-nil}
-use mathlib.Core.Path.{_≡_, sym, subst, ap, _∙_}
-use Prim.Native.Nat.{ℕ}
+use mathlib.Core.Path.{sym, subst, ap, _∙_}
 use denote.Ref.{now}
-use lib.Seq.{sets}
 use Rattle.image.specs.Image.{decode, encode}
 use Rattle.image.specs.Table.{tableBytes}
 use Rattle.rules.specs.declared.AtLot.{AtLot}
 use Rattle.rules.specs.Events.{afterLot}
-use Rattle.answers.specs.Buffers.{entriesStart, listed}
+use Rattle.answers.specs.Buffers.{listed}
 use Rattle.events.specs.Posting.{CanPost}
 use Rattle.calls.specs.Laws.Swept.{one-listed}
 use borrow.Author.Needs.{needs}

@@ -4,7 +4,6 @@ use mathlib.Core.Bool.{Bool, true, false, not, cond}
 use mathlib.Core.List.{List, [], _∷_, map}
 use mathlib.Core.Path.{_≡_, refl, sym, subst}
 use Prim.Native.Nat.{ℕ, zero, suc, _^_, _<_}
-use native.Mathlib.Nat.{le-of-suc-le-suc, not-suc-le-zero}
 use native.Mathlib.Omega.{arith}
 use lib.Dec.{eqb, ltb}
 use lib.ListN.{length}
@@ -19,7 +18,8 @@ use Rattle.rules.specs.Steps.{numberOn}
 use Rattle.image.specs.Image.{validImage, decode, encode}
 use Rattle.image.specs.Laws.RoundTrip.{decode-encode, valid-encode, valid-decode, fresh-valid, fresh-sized, decode-sized}
 use Rattle.answers.specs.Buffers.{callLength, answerLength, callIn, entriesIn, acceptedAnswer}
-use Rattle.answers.specs.Laws.ReadBack.{Numbered, entries-back}
+use Rattle.answers.specs.Laws.Entries.{Numbered}
+use Rattle.answers.specs.Laws.ReadBack.{entries-back}
 use Rattle.lots.specs.Laws.Visits.{good-decode}
 use Rattle.crz.specs.Laws.Returned.{Left, refused, accepted, returned-case}
 use Rattle.crz.specs.Returned.{afterBufferNumbers, callNumber, recordNumber, Returned}
@@ -37,9 +37,8 @@ numbers-fit : (es : List Entry) → EachEntry EntryFits es → NumbersFit es
 numbers-fit = each-map EntryFits (λ e. e .number < 2 ^ 32) (λ e f. f .number)
 
 pub numbered : (es : List Entry) → NumbersFit es → Numbered es
-numbered [] s k h = absurd (not-suc-le-zero h)
-numbered (e ∷ es) s zero h = s .0
-numbered (e ∷ es) s (suc k) h = numbered es (s .1) k (le-of-suc-le-suc h)
+numbered [] s = tt
+numbered (e ∷ es) s = (s .0, numbered es (s .1))
 
 -- ── Number 0 ───────────────────────────────────────────────────────────────────────────────────
 

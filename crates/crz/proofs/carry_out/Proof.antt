@@ -1,11 +1,11 @@
 -- The entries over zeros, and the header in front of them. The call leaves a good zone, so that its image gives back phase and total.
 use mathlib.Core.List.{List}
-use mathlib.Core.Path.{_≡_, refl, ap, _∙_}
+use mathlib.Core.Path.{refl, ap, _∙_}
 use Prim.Native.Nat.{ℕ}
 use native.Mathlib.Omega.{arith}
 use denote.Ref.{now}
 use lib.ListN.{length}
-use lib.Seq.{sets, length-sets}
+use lib.Seq.{sets}
 use Rattle.zone.specs.declared.Zone.{Zone}
 use Rattle.image.specs.Image.{decode}
 use Rattle.image.specs.Laws.RoundTrip.{length-encode, valid-decode}
