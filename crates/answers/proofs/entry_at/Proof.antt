@@ -7,11 +7,11 @@ use borrow.Author.Needs.{needs}
 use Rattle.answers.proofs.entry_at.Statement.{statement}
 use Rattle.answers.proofs.entry_at.Tie as tie
 
-mul-at : tie.Need-mul-at
-mul-at c = search needs
+mul-start : tie.Need-mul-start
+mul-start c = search needs
 
-add-at : tie.Need-add-at
-add-at c = search needs
+add-start : tie.Need-add-start
+add-start c = search needs
 
 add-end : tie.Need-add-end
 add-end c = search needs
@@ -35,8 +35,8 @@ pub entry-at-spec : {M : Type 1} → statement M
 entry-at-spec =
     tie.close
     (tie.spec
-    mul-at
-    add-at
+    mul-start
+    add-start
     add-end
     sub-entry-in
     part-entry-in-start
