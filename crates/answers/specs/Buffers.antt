@@ -3,10 +3,11 @@
 -- Assumes nothing.
 use mathlib.Core.Bool.{Bool, cond}
 use mathlib.Core.List.{List, [], _∷_, _++_}
-use Prim.Native.Nat.{ℕ, _+_, _-_, _*_, _/_}
+use Prim.Native.Nat.{ℕ, zero, suc, _+_, _-_, _*_, _/_}
 use lib.Dec.{eqb}
 use lib.IntN.{pos}
 use lib.ListN.{length, getD, drop, replicate}
+use lib.Seq.{sets}
 use Rattle.wire.specs.LittleEndian.{leAt, leBytes, signed32}
 use Rattle.units.specs.Ranges.{receiptCount}
 use Rattle.zone.specs.declared.Zone.{Zone}
@@ -177,3 +178,26 @@ entryIn b =
 -- as many as the answer says, from where it says on
 unfoldable pub entriesIn : List ℕ → List Entry
 entriesIn answer = table (leAt 2 answer answerCountPlace) (λ i. entryIn (runAt (leAt 4 answer answerOffsetPlace) entryLength answer i))
+
+-- ── Entries as they are put ────────────────────────────────────────────────────────────────────
+
+-- where entry k stands
+abbrev pub entryPlace : ℕ → ℕ
+entryPlace k = entriesStart + k * entryLength
+
+-- entry k of the bytes
+abbrev pub entryAt : List ℕ → ℕ → Entry
+entryAt answer k = entryIn (runAt entriesStart entryLength answer k)
+
+-- n of them, from entry k on
+unfoldable pub entriesFrom : ℕ → ℕ → List ℕ → List Entry
+entriesFrom k zero answer = []
+entriesFrom k (suc n) answer = entryAt answer k ∷ entriesFrom (suc k) n answer
+
+-- the answer with entries put from entry k on
+abbrev pub withEntries : ℕ → List Entry → List ℕ → List ℕ
+withEntries k es answer = sets answer (entryPlace k) (tableBytes entryBytes es)
+
+-- how many entries were put behind the header of an answer, and the answer then
+abbrev pub listed : List Entry → List ℕ → ℕ × List ℕ
+listed es answer = (length es, withEntries 0 es answer)

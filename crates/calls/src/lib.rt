@@ -1,23 +1,20 @@
 // What an accepted call does in an image, part by part.
 ghost use mathlib.Core.Bool.{true};
-ghost use mathlib.Core.List.{_++_};
 ghost use mathlib.Core.Path.{_≡_};
 ghost use Prim.Native.Nat.{_≤_};
-ghost use lib.ListN.{take, drop};
+ghost use lib.ListN.{length};
 ghost use Rattle.units.specs.Ranges.{receiptCount};
 ghost use Rattle.zone.specs.Valid.{validZone};
 ghost use Rattle.image.specs.Image.{validImage, decode, encode, Encoded, Fits};
 ghost use Rattle.rules.specs.declared.Step.the-variants.{Accepted};
 ghost use Rattle.rules.specs.Effects.{opening, ending, sweeps, ruleAt, effect};
-ghost use Rattle.rules.specs.EntryArray.{entryArray};
 ghost use Rattle.rules.specs.Events.{afterLot, sweep};
 ghost use Rattle.rules.specs.Order.{answerOrder};
 ghost use Rattle.rules.specs.Steps.{stepOn, numberOn};
+ghost use Rattle.answers.specs.Buffers.{answerLength, entriesFrom, withEntries, listed};
 ghost use Rattle.events.specs.Posting.{CanPost};
 use rules::AtLot;
 use rules::Call;
-use rules::Entries;
-use rules::Entry;
 use rules::KIND_DAY_CLOSE;
 use rules::KIND_MORNING_CLOSE;
 use rules::KIND_PAY_IN;
@@ -37,66 +34,41 @@ fn sweeps(c: Call) -> bool
     (kind == KIND_QUOTE) | (kind == KIND_MORNING_CLOSE) | (kind == KIND_DAY_CLOSE)
 }
 
-// Lots that the call does not concern are passed over.
-fn sweep_lots(image: &mut [u8], c: Call) -> Entries
-    requires { ⌜ Encoded (now image) × (validZone (decode (now image)) ≡ true) × (sweeps (c .kind) ≡ true) ⌝ }
-    ensures { λ r. ⌜ (now (image .exit) ≡ encode (sweep (ruleAt c) receiptCount 1 (decode (now (image .entry))) .zone)) × (r ≡ entryArray (sweep (ruleAt c) receiptCount 1 (decode (now (image .entry))) .entries)) ⌝ }
+// Lots that the call does not concern are passed over. Returns how many entries it has put into the answer.
+fn sweep_lots(image: &mut [u8], c: Call, answer: &mut [u8]) -> usize
+    requires { ⌜ Encoded (now image) × (validZone (decode (now image)) ≡ true) × (sweeps (c .kind) ≡ true) × (answerLength ≤ length (now answer)) ⌝ }
+    ensures { λ r. ⌜ (now (image .exit) ≡ encode (sweep (ruleAt c) receiptCount 1 (decode (now (image .entry))) .zone)) × ((r, now (answer .exit)) ≡ listed (sweep (ruleAt c) receiptCount 1 (decode (now (image .entry))) .entries) (now (answer .entry))) ⌝ }
 {
-    let none = Entry {
-        lot: 0,
-        outcome: 0,
-        from: 0,
-        to: 0,
-        number: 0,
-    };
     let mut count: usize = 0;
-    let mut entries = [none; RECEIPTS];
     let mut i = lots::next_concerned(image, c, 0);
     while i < RECEIPTS {
         let noted = visits::work_lot(image, c, (i as u8) + 1);
         match noted {
             Noted::One(e) => {
-                entries[count] = e;
+                answers::put_entry(answer, count, e);
                 count += 1;
             }
             Noted::Nothing => {}
         }
         i = lots::next_concerned(image, c, i + 1);
     }
-    Entries {
-        count: count,
-        all: entries,
-    }
+    count
 }
 
 // ── One lot ─────────────────────────────────────────────────────────────────────────────────────
 
 // What a call did at its receipt: an event is posted, and is the one entry.
-fn post_one(image: &mut [u8], at: AtLot) -> Entries
-    requires { ⌜ Encoded (now image) × CanPost (decode (now image)) at ⌝ }
-    ensures { λ r. ⌜ (now (image .exit) ≡ encode (afterLot (decode (now (image .entry))) at .zone)) × (r ≡ entryArray (afterLot (decode (now (image .entry))) at .entries)) ⌝ }
+fn post_one(image: &mut [u8], at: AtLot, answer: &mut [u8]) -> usize
+    requires { ⌜ Encoded (now image) × CanPost (decode (now image)) at × (answerLength ≤ length (now answer)) ⌝ }
+    ensures { λ r. ⌜ (now (image .exit) ≡ encode (afterLot (decode (now (image .entry))) at .zone)) × ((r, now (answer .exit)) ≡ listed (afterLot (decode (now (image .entry))) at .entries) (now (answer .entry))) ⌝ }
 {
-    let none = Entry {
-        lot: 0,
-        outcome: 0,
-        from: 0,
-        to: 0,
-        number: 0,
-    };
-    let mut entries = [none; RECEIPTS];
     match at {
         AtLot::Event(e, r) => {
             events::post(image, e, r);
-            entries[0] = e;
-            Entries {
-                count: 1,
-                all: entries,
-            }
+            answers::put_entry(answer, 0, e);
+            1
         }
-        AtLot::NoEvent => Entries {
-            count: 0,
-            all: entries,
-        },
+        AtLot::NoEvent => 0,
     }
 }
 
@@ -146,30 +118,30 @@ fn end_call(image: &mut [u8], c: Call)
 // ── The order of the entries ────────────────────────────────────────────────────────────────────
 
 // A quote lists its strikes by price; every other call has its entries as the lots were visited.
-fn answer_order(c: Call, es: Entries) -> Entries
-    requires { ⌜ es .count ≤ receiptCount ⌝ }
-    ensures { λ r. ⌜ (r .count ≡ es .count) × (r .all ≡ answerOrder (c .kind) (take (es .count) (es .all)) ++ drop (es .count) (es .all)) ⌝ }
+fn answer_order(c: Call, answer: &mut [u8], count: usize)
+    requires { ⌜ (answerLength ≤ length (now answer)) × (count ≤ receiptCount) ⌝ }
+    ensures { λ _. ⌜ now (answer .exit) ≡ withEntries 0 (answerOrder (c .kind) (entriesFrom 0 count (now (answer .entry)))) (now (answer .entry)) ⌝ }
 {
     let kind = c.kind;
     if kind == KIND_QUOTE {
-        return order::by_price(es);
+        order::by_price(answer, count);
     }
-    es
 }
 
 // ── The whole call ──────────────────────────────────────────────────────────────────────────────
 
-// What an accepted call does, where `at` is what it does at the receipt that it names.
-pub fn perform(image: &mut [u8], c: Call, at: AtLot) -> Entries
-    requires { ⌜ (validImage (now image) ≡ true) × (stepOn (decode (now image)) c ≡ Accepted at) ⌝ }
-    ensures { λ r. ⌜ (now (image .exit) ≡ encode (effect (decode (now (image .entry))) c .zone)) × (r ≡ entryArray (effect (decode (now (image .entry))) c .entries)) ⌝ }
+// What an accepted call does, where `at` is what it does at the receipt that it names. Returns how many entries the answer has.
+pub fn perform(image: &mut [u8], c: Call, at: AtLot, answer: &mut [u8]) -> usize
+    requires { ⌜ (validImage (now image) ≡ true) × (stepOn (decode (now image)) c ≡ Accepted at) × (answerLength ≤ length (now answer)) ⌝ }
+    ensures { λ r. ⌜ (now (image .exit) ≡ encode (effect (decode (now (image .entry))) c .zone)) × ((r, now (answer .exit)) ≡ listed (effect (decode (now (image .entry))) c .entries) (now (answer .entry))) ⌝ }
 {
     open_call(image, c);
-    let entries = if sweeps(c) {
-        sweep_lots(image, c)
+    let count = if sweeps(c) {
+        sweep_lots(image, c, answer)
     } else {
-        post_one(image, at)
+        post_one(image, at, answer)
     };
     end_call(image, c);
-    answer_order(c, entries)
+    answer_order(c, answer, count);
+    count
 }

@@ -30,8 +30,9 @@ fn carry_out(image: &mut [u8], answer: &mut [u8], c: Call, at: AtLot) -> u32
     requires { ⌜ (answerLength ≤ length (now answer)) × (validImage (now image) ≡ true) × (stepOn (decode (now image)) c ≡ Accepted at) ⌝ }
     ensures { λ r. ⌜ (r ≡ 0) × (now (image .exit) ≡ encode (effect (decode (now (image .entry))) c .zone)) × (now (answer .exit) ≡ acceptedAnswer (effect (decode (now (image .entry))) c .zone) (effect (decode (now (image .entry))) c .entries) (now (answer .entry))) ⌝ }
 {
-    let es = calls::perform(image, c, at);
-    answers::fill_answer(answer, image, es);
+    wire::put_zeros(answer, 0, ANSWER_LENGTH);
+    let count = calls::perform(image, c, at, answer);
+    answers::put_header(answer, image, count);
     NUMBER_ACCEPTED as u32
 }
 

@@ -1,7 +1,6 @@
 pub mod Tables
 pub mod View
 pub mod Numbers
-pub mod EntryArray
 pub mod Events
 pub mod Effects
 pub mod Steps

@@ -2,7 +2,6 @@
 ghost use mathlib.Core.Path.{_≡_};
 ghost use Rattle.rules.specs.Effects.{ownedBy, withLot};
 use units::Fen;
-use units::RECEIPTS;
 use units::YuanPerTonne;
 use zone::Lot;
 use zone::Receipt;
@@ -127,12 +126,6 @@ pub struct Entry {
     pub from: u8,
     pub to: u8,
     pub number: u32,
-}
-
-// The entries of a call; unused places are zero.
-pub struct Entries {
-    pub count: usize,
-    pub all: [Entry; RECEIPTS],
 }
 
 // Free money of the caller, of the lot's buyer and of its seller.

@@ -4,10 +4,16 @@ use mathlib.Core.List.{[], _∷_}
 use mathlib.Core.Path.{refl}
 use Rattle.wire.specs.LittleEndian.{leBytes}
 use Rattle.wire.specs.Laws.Bytes.{run-behind}
-use Rattle.answers.specs.Buffers.{entryBytes}
+use Rattle.answers.specs.Buffers.{entryPlace, entryBytes}
 use borrow.Author.Needs.{needs}
 use Rattle.answers.proofs.put_entry.Statement.{statement}
 use Rattle.answers.proofs.put_entry.Tie as tie
+
+mul-at : tie.Need-mul-at
+mul-at c = search needs
+
+add-at : tie.Need-add-at
+add-at c = search needs
 
 slice-aggregate-put-run : tie.Need-slice-aggregate-put-run
 slice-aggregate-put-run c = search needs
@@ -28,12 +34,14 @@ returns : tie.Need-returns
 unfolding entryBytes
 returns c =
     let a = c .before .before .before .before .before .before .before .before .before .before .args in
-    run-behind (now (a .answer)) (a .at) (a .e .lot ∷ a .e .outcome ∷ a .e .from ∷ a .e .to ∷ []) (leBytes 4 (a .e .number)) 4 refl (c .before .before .before .before .before .before .put-run .ensures) (c .before .before .put-u32 .ensures)
+    run-behind (now (a .answer)) (entryPlace (a .k)) (a .e .lot ∷ a .e .outcome ∷ a .e .from ∷ a .e .to ∷ []) (leBytes 4 (a .e .number)) 4 refl (c .before .before .before .before .before .before .put-run .ensures) (c .before .before .put-u32 .ensures)
 
 pub put-entry-spec : {M : Type 1} → statement M
 put-entry-spec =
     tie.close
     (tie.spec
+    mul-at
+    add-at
     slice-aggregate-put-run
     put-run-requires
     add-put-u32

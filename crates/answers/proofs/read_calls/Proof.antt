@@ -50,7 +50,7 @@ part-read-call-start : tie.Need-part-read-call-start Inv-loop μ-loop
 part-read-call-start c = search needs
 
 part-read-call-end : tie.Need-part-read-call-end Inv-loop μ-loop
-part-read-call-end c = ends _ _ (c .loop-test .taken)
+part-read-call-end c = omega (arith, ends _ _ (c .loop-test .taken))
 
 read-call-requires : tie.Need-read-call-requires Inv-loop μ-loop
 read-call-requires c κs = search needs

@@ -16,7 +16,9 @@ use Rattle.rules.specs.declared.Entry.{Entry}
 use Rattle.image.specs.Table.{tableBytes}
 use Rattle.image.specs.Laws.Places.{put-front}
 use Rattle.image.specs.Laws.Table.{length-tableBytes}
-use Rattle.answers.specs.Buffers.{answerLength, answerHeader, entryLength, entryBytes, headerOf, acceptedBytes, acceptedAnswer, padded}
+use Rattle.answers.specs.Buffers.{answerLength, answerHeader, entriesStart, entryLength, entryBytes, headerOf, acceptedBytes, acceptedAnswer, padded, withEntries}
+use Rattle.answers.specs.Laws.Entries.{entry-wide}
+use Rattle.wire.specs.Laws.Runs.{runs-apart}
 
 drop-replicate : (n m : ℕ) (x : ℕ) → n ≤ m → drop n (replicate m x) ≡ replicate (m - n) x
 drop-replicate zero m x h = rw sub-zero
@@ -40,18 +42,13 @@ run-over-zeros old bytes h k = go (replicate answerLength 0) (length-replicate {
         ap (λ (s : List ℕ). sets s 0 bytes) a ∙ put-front (zeros ++ drop answerLength old) bytes m ∙ rw (drop-append-le (length bytes) zeros (drop answerLength old), e)
         (sym (append-assoc bytes (replicate (answerLength - length bytes) 0) (drop answerLength old)))
 
-pub entry-wide : (e : Entry) → length (entryBytes e) ≡ entryLength
-unfolding entryBytes leBytes
-entry-wide e = refl
-
 pub header-wide : (afternoon : Bool) (count total : ℕ) → length (headerOf afternoon count total) ≡ answerHeader
 unfolding headerOf leBytes
 header-wide afternoon count total = refl
 
--- header and entries put over zeros, one after the other
+-- entries put over zeros, and the header in front of them
 pub answer-padded : (old : List ℕ) (z : Zone) (es : List Entry) → answerLength ≤ length old → length es ≤ receiptCount →
-    sets (sets (sets old 0 (replicate answerLength 0)) 0 (headerOf (z .afternoon) (length es) (z .total .0))) answerHeader (tableBytes entryBytes es)
-    ≡ acceptedAnswer z es old
+    sets (withEntries 0 es (sets old 0 (replicate answerLength 0))) 0 (headerOf (z .afternoon) (length es) (z .total .0)) ≡ acceptedAnswer z es old
 unfolding acceptedBytes
 answer-padded old z es h k =
     let head : List ℕ = headerOf (z .afternoon) (length es) (z .total .0) in
@@ -60,8 +57,8 @@ answer-padded old z es h k =
     rw (length-append, wide, length-tableBytes entryBytes entryLength entry-wide es) (omega arith) in
     go (sets old 0 (replicate answerLength 0)) head wide ∙ run-over-zeros old (head ++ tableBytes entryBytes es) h n
   where
-    go : (s head : List ℕ) → length head ≡ answerHeader → sets (sets s 0 head) answerHeader (tableBytes entryBytes es) ≡ sets s 0 (head ++ tableBytes entryBytes es)
-    go s head wide = sym (rw (sets-append, wide))
+    go : (s head : List ℕ) → length head ≡ answerHeader → sets (withEntries 0 es s) 0 head ≡ sets s 0 (head ++ tableBytes entryBytes es)
+    go s head wide = runs-apart head (tableBytes entryBytes es) s 0 entriesStart (omega arith) ∙ sym (rw (sets-append, wide))
 
 -- a padded answer is as long as the buffer was
 pub padded-long : (bytes old : List ℕ) → length bytes ≤ answerLength → answerLength ≤ length old → length (padded bytes old) ≡ length old

@@ -1,9 +1,10 @@
--- The entries of an answer, read back.
+-- The entries of an answer, as a host reads them.
 -- Assumes nothing.
 use mathlib.Core.Bool.{Bool}
-use mathlib.Core.List.{List, [], _++_, append-assoc}
+use mathlib.Core.List.{List, [], _∷_, _++_, append-assoc}
 use mathlib.Core.Path.{_≡_, refl, sym, ap, _∙_}
-use Prim.Native.Nat.{ℕ, _+_, _-_, _^_, _<_}
+use Prim.Native.Nat.{ℕ, zero, suc, _-_, _^_, _<_}
+use native.Mathlib.Nat.{le-of-suc-le-suc, not-suc-le-zero}
 use lib.ListN.{length, getD, drop, replicate}
 use Rattle.wire.specs.LittleEndian.{leAt, leBytes}
 use Rattle.wire.specs.Laws.Bytes.{leAt-leBytes}
@@ -12,21 +13,16 @@ use Rattle.rules.specs.declared.Entry.{Entry}
 use Rattle.image.specs.Table.{table, tableBytes, runAt}
 use Rattle.image.specs.Laws.Table.{is-table, record-back}
 use Rattle.answers.specs.Buffers.{answerLength, answerHeader, entryLength, entryBytes, entryIn, entriesIn, headerOf, acceptedBytes, acceptedAnswer, padded}
-use Rattle.answers.specs.Laws.Answer.{entry-wide, header-wide}
+use Rattle.answers.specs.Laws.Answer.{header-wide}
+use Rattle.answers.specs.Laws.Entries.{entry-wide, entry-back, Numbered}
 
 abbrev none : Entry
 none = record { lot = 0; outcome = 0; from = 0; to = 0; number = 0 }
 
--- each number of the entries fits its four bytes
-abbrev pub Numbered : List Entry → Type 0
-Numbered es = (k : ℕ) → k < length es → getD es k none .number < 2 ^ 32
-
-entry-eq : {l o f t n n′ : ℕ} → n ≡ n′ → _≡_ {A = Entry} (record { lot = l; outcome = o; from = f; to = t; number = n }) (record { lot = l; outcome = o; from = f; to = t; number = n′ })
-entry-eq e = cc
-
-entry-back : (e : Entry) → e .number < 2 ^ 32 → entryIn (entryBytes e) ≡ e
-unfolding entryIn entryBytes leAt leBytes
-entry-back e h = entry-eq (leAt-leBytes 4 (e .number) [] [] h)
+number-of : (es : List Entry) → Numbered es → (k : ℕ) → k < length es → getD es k none .number < 2 ^ 32
+number-of [] f k h = absurd (not-suc-le-zero h)
+number-of (e ∷ es) f zero h = f .0
+number-of (e ∷ es) f (suc k) h = number-of es (f .1) k (le-of-suc-le-suc h)
 
 -- the count and the offset, whatever stands behind the header
 count-back : (a : Bool) (n t : ℕ) (q : List ℕ) → n < 2 ^ 16 → leAt 2 (headerOf a n t ++ q) 2 ≡ n
@@ -54,4 +50,4 @@ entries-back z es old h f =
         table (leAt 2 (head ++ body ++ rest) 2) (λ i. entryIn (runAt (leAt 4 (head ++ body ++ rest) 4) entryLength (head ++ body ++ rest) i)) ≡ es
     go head body rest hw n o e =
         rw (n, o) (sym (is-table none es (length es) _ refl (λ k p.
-        sym (ap entryIn (ap (λ (b : List ℕ). runAt answerHeader entryLength (head ++ b ++ rest) k) e ∙ record-back entryBytes entryLength entry-wide none head rest es answerHeader k hw p) ∙ entry-back (getD es k none) (f k p)))))
+        sym (ap entryIn (ap (λ (b : List ℕ). runAt answerHeader entryLength (head ++ b ++ rest) k) e ∙ record-back entryBytes entryLength entry-wide none head rest es answerHeader k hw p) ∙ entry-back (getD es k none) (number-of es f k p)))))

@@ -1,23 +1,27 @@
--- The entries of a call: at most one a lot, given back by the code's array, and still there when they are put in order.
+-- The entries of a call: at most one a lot, with numbers that fit, and still there when they are put in order.
 -- Assumes nothing.
 use mathlib.Core.Bool.{Bool, true, false, cond}
-use mathlib.Core.List.{List, [], _∷_, _++_}
-use mathlib.Core.Path.{_≡_, sym, ap, _∙_}
-use Prim.Native.Nat.{ℕ, _-_, _≤_}
+use mathlib.Core.List.{List, [], _∷_}
+use mathlib.Core.Path.{_≡_, ap, _∙_}
+use Prim.Native.Nat.{ℕ, _≤_}
 use native.Mathlib.Omega.{arith}
-use lib.ListN.{length, take, drop, replicate}
-use lib.Seq.{take-append-seam, drop-append-seam}
+use lib.ListN.{length}
 use Rattle.units.specs.Ranges.{receiptCount}
 use Rattle.zone.specs.declared.Zone.{Zone}
 use Rattle.rules.specs.declared.Call.{Call}
-use Rattle.rules.specs.declared.Entries.{Entries}
 use Rattle.rules.specs.declared.Entry.{Entry}
 use Rattle.rules.specs.Effects.{ruleAt, opening, firstLot, lotCount, atLots, effect, sweepKinds}
-use Rattle.rules.specs.EntryArray.{noEntry, entryArray}
+use Rattle.rules.specs.Laws.Chain.{taken-of}
+use Rattle.rules.specs.Laws.Good.{Good}
+use Rattle.rules.specs.Laws.Keeps.{opening-good}
+use Rattle.rules.specs.Laws.Links.{good-walk}
 use Rattle.rules.specs.Laws.Order.{length-answer}
+use Rattle.rules.specs.Laws.Passed.{PassedAt}
 use Rattle.rules.specs.Order.{answerOrder}
 use Rattle.rules.specs.Tables.{among}
-use Rattle.calls.specs.Laws.Swept.{sweep-few, same-entries}
+use Rattle.answers.specs.Buffers.{answerLength, entriesFrom, withEntries}
+use Rattle.answers.specs.Laws.Entries.{Numbered, entries-there, put-over}
+use Rattle.calls.specs.Laws.Swept.{sweep-few}
 
 -- ── At most one a lot ──────────────────────────────────────────────────────────────────────────
 
@@ -30,42 +34,25 @@ lots-few c = go (among (c .kind) (1 ∷ 2 ∷ [])) (among (c .kind) sweepKinds)
     go false true = omega arith
     go false false = omega arith
 
-at-lots-few : (z : Zone) (c : Call) → length (atLots z c .entries) ≤ receiptCount
+pub at-lots-few : (z : Zone) (c : Call) → length (atLots z c .entries) ≤ receiptCount
 at-lots-few z c = omega (arith, lots-few c, sweep-few (ruleAt c) (lotCount c) (firstLot c) (opening c z))
 
-effect-few : (z : Zone) (c : Call) → length (effect z c .entries) ≤ receiptCount
+pub effect-few : (z : Zone) (c : Call) → length (effect z c .entries) ≤ receiptCount
 unfolding effect
 effect-few z c = omega (arith, length-answer (c .kind) (atLots z c .entries), at-lots-few z c)
 
--- ── The array ──────────────────────────────────────────────────────────────────────────────────
+-- ── In order ───────────────────────────────────────────────────────────────────────────────────
 
--- the entries that stand in it
-pub entries-listed : (es : List Entry) → take (entryArray es .count) (entryArray es .all) ≡ es
-unfolding entryArray
-entries-listed es = take-append-seam es _
+-- the numbers of the entries fit
+pub numbered-lots : (z : Zone) (c : Call) → Good z → PassedAt c z (c .receipt) → Numbered (atLots z c .entries)
+numbered-lots z c G P =
+    good-walk {c = c} {P = λ lo z es last. Numbered es} (record { end = λ G. tt; step = λ L f. (L .fit .entry .number, f) })
+    (taken-of z c P .chain) (opening-good z G c P)
 
-pub count-few : (z : Zone) (c : Call) (es : Entries) → es ≡ entryArray (atLots z c .entries) → es .count ≤ receiptCount
-unfolding entryArray
-count-few z c es e = omega (arith, ap (λ (r : Entries). r .count) e, at-lots-few z c)
-
-pub array-few : (z : Zone) (c : Call) → entryArray (effect z c .entries) .count ≤ receiptCount
-unfolding entryArray
-array-few z c = effect-few z c
-
--- what the code leaves of the array of `es` is the array of the entries in order
-abbrev orderedAll : ℕ → Entries → List Entry
-orderedAll kind es = answerOrder kind (take (es .count) (es .all)) ++ drop (es .count) (es .all)
-
-ordered-all : (kind : ℕ) (es : List Entry) → orderedAll kind (entryArray es) ≡ entryArray (answerOrder kind es) .all
-unfolding entryArray
-ordered-all kind es =
-    let zeros : ℕ → List Entry = λ n. replicate (receiptCount - n) noEntry in
-    ap (λ (l : List Entry). answerOrder kind l ++ drop (length es) (es ++ zeros (length es))) (take-append-seam es _)
-    ∙ ap (λ (l : List Entry). answerOrder kind es ++ l) (drop-append-seam es _)
-    ∙ ap (λ (n : ℕ). answerOrder kind es ++ zeros n) (sym (length-answer kind es))
-
-pub ordered-entries : (kind : ℕ) (l : List Entry) (es r : Entries) → es ≡ entryArray l → (r .count ≡ es .count) × (r .all ≡ orderedAll kind es)
-    → r ≡ entryArray (answerOrder kind l)
-unfolding entryArray
-ordered-entries kind l es r e h =
-    same-entries (h .0 ∙ ap (λ (s : Entries). s .count) e ∙ sym (length-answer kind l)) (h .1 ∙ ap (orderedAll kind) e ∙ ordered-all kind l)
+-- what is put in order where they were put
+pub ordered-entries : (kind : ℕ) (es : List Entry) (answer : List ℕ) → Numbered es → length es ≤ receiptCount → answerLength ≤ length answer
+    → withEntries 0 (answerOrder kind (entriesFrom 0 (length es) (withEntries 0 es answer))) (withEntries 0 es answer) ≡ withEntries 0 (answerOrder kind es) answer
+ordered-entries kind es answer f few room =
+    let long : length (answerOrder kind es) ≡ length es = length-answer kind es in
+    ap (λ (l : List Entry). withEntries 0 (answerOrder kind l) (withEntries 0 es answer)) (entries-there es 0 answer (omega arith) f)
+    ∙ put-over es (answerOrder kind es) 0 0 answer (omega arith) (omega arith) (omega arith)

@@ -3,12 +3,12 @@
 use mathlib.Core.Bool.{true}
 use mathlib.Core.List.{List, [], _∷_, _++_, append-assoc, append-nil}
 use mathlib.Core.Path.{_≡_, refl, sym, ap, _∙_, subst}
-use Prim.Native.Nat.{ℕ, zero, suc, _+_, _-_, _≤_, _<_}
+use Prim.Native.Nat.{ℕ, zero, suc, _+_, _≤_, _<_}
 use native.Mathlib.Numerals.{add-one}
 use native.Mathlib.Decide.{ℕ-discrete}
 use native.Mathlib.Omega.{arith}
-use lib.ListN.{length, set, replicate, length-append}
-use lib.Seq.{set-append-seam}
+use lib.ListN.{length, length-append}
+use lib.Seq.{sets}
 use Rattle.units.specs.Ranges.{receiptCount}
 use Rattle.zone.specs.declared.Zone.{Zone}
 use Rattle.rules.specs.declared.AtLot.{AtLot}
@@ -20,16 +20,17 @@ use Rattle.rules.specs.Events.{Done, afterLot, sweep}
 use Rattle.rules.specs.Laws.Chain.{swept}
 use Rattle.rules.specs.Laws.Good.{Good}
 use Rattle.rules.specs.Laws.Links.{after-good}
-use Rattle.rules.specs.declared.Entries.{Entries}
-use Rattle.rules.specs.EntryArray.{noEntry, entryArray}
+use Rattle.image.specs.Table.{tableBytes}
+use Rattle.answers.specs.Buffers.{entryPlace, entryBytes, listed}
+use Rattle.answers.specs.Laws.Entries.{put-next}
 use Rattle.visits.specs.declared.Noted.{Noted}
 use Rattle.visits.specs.declared.Noted.the-variants.{One, Nothing}
 use Rattle.visits.specs.Noted.{entriesOf}
 
--- the entries that the code has after one step more
-abbrev pub recorded : Entries → Noted → Entries
+-- the count and the answer that the code has after one step more
+abbrev pub recorded : ℕ × List ℕ → Noted → ℕ × List ℕ
 recorded s Nothing = s
-recorded s (One e) = record { count = s .count + 1; all = set (s .all) (s .count) e }
+recorded s (One e) = (s .0 + 1, sets (s .1) (entryPlace (s .0)) (entryBytes e))
 
 -- what the lots so far did, and one step more
 abbrev further : Done → AtLot → Done
@@ -85,25 +86,17 @@ sweep-few rule (suc more) n z =
     omega (arith, length-append (afterLot z s .entries) (sweep rule more (suc n) y .entries), few z s, sweep-few rule more (suc n) y)
 
 -- part by part
-pub same-entries : {m n : ℕ} {k l : List Entry} → m ≡ n → k ≡ l
-    → _≡_ {A = Entries} (record { count = m; all = k }) (record { count = n; all = l })
-same-entries q r = λ i. record { count = q i; all = r i }
+pub same-listed : {m n : ℕ} {k l : List ℕ} → m ≡ n → k ≡ l → _≡_ {A = ℕ × List ℕ} (m, k) (n, l)
+same-listed q r = λ i. (q i, r i)
 
--- the next entry takes the first of the zeros
-next-entry : (l : List Entry) (e : Entry) → length l < receiptCount
-    → set (l ++ replicate (receiptCount - length l) noEntry) (length l) e
-    ≡ (l ++ (e ∷ [])) ++ replicate (receiptCount - length (l ++ (e ∷ []))) noEntry
-next-entry l e h =
-    let k : ℕ = receiptCount - length (l ++ (e ∷ [])) in
-    let a : receiptCount - length l ≡ suc k = omega (arith, length-append l (e ∷ [])) in
-    ap (λ (j : ℕ). set (l ++ replicate j noEntry) (length l) e) a
-    ∙ set-append-seam l noEntry (replicate k noEntry) e
-    ∙ sym (append-assoc l (e ∷ []) (replicate k noEntry))
+recorded-more : (l : List Entry) (noted : Noted) (answer : List ℕ) → recorded (listed l answer) noted ≡ listed (l ++ entriesOf noted) answer
+recorded-more l Nothing answer = ap (λ (es : List Entry). listed es answer) (sym (append-nil l))
+recorded-more l (One e) answer = same-listed (sym (length-append l (e ∷ []))) (put-next l e answer)
 
-recorded-more : (l : List Entry) (noted : Noted) → length l < receiptCount → recorded (entryArray l) noted ≡ entryArray (l ++ entriesOf noted)
-unfolding entryArray
-recorded-more l Nothing h = rw (append-nil l)
-recorded-more l (One e) h = same-entries (sym (length-append l (e ∷ []))) (next-entry l e h)
+-- one entry alone
+pub one-listed : (e : Entry) (answer : List ℕ) {answer′ : List ℕ} → answer′ ≡ sets answer (entryPlace 0) (entryBytes e) → (1, answer′) ≡ listed (e ∷ []) answer
+unfolding tableBytes
+one-listed e answer q = same-listed refl (q ∙ put-next [] e answer)
 
 -- ── All lots of a good zone ────────────────────────────────────────────────────────────────────
 
@@ -136,10 +129,10 @@ module _ (c : Call) (z : Zone) (all : sweeps (c .kind) ≡ true) (G : Good z) wh
         ap (λ (s : AtLot). afterLot (so-far .zone) s .zone) next
         ∙ rw (add-one i, sweep-more (ruleAt c) i 1 (1 + i) z refl)
 
-    pub next-entries : (noted : Noted) → entriesOf noted ≡ afterLot (so-far .zone) (ruleAt c (so-far .zone) (i + 1)) .entries
-        → recorded (entryArray (so-far .entries)) noted ≡ entryArray (sweep (ruleAt c) (i + 1) 1 z .entries)
-    next-entries noted e =
-        recorded-more (so-far .entries) noted room
-        ∙ ap (λ (es : List Entry). entryArray (so-far .entries ++ es)) e
-        ∙ ap (λ (s : AtLot). entryArray (so-far .entries ++ afterLot (so-far .zone) s .entries)) next
+    pub next-entries : (noted : Noted) (answer : List ℕ) → entriesOf noted ≡ afterLot (so-far .zone) (ruleAt c (so-far .zone) (i + 1)) .entries
+        → recorded (listed (so-far .entries) answer) noted ≡ listed (sweep (ruleAt c) (i + 1) 1 z .entries) answer
+    next-entries noted answer e =
+        recorded-more (so-far .entries) noted answer
+        ∙ ap (λ (es : List Entry). listed (so-far .entries ++ es) answer) e
+        ∙ ap (λ (s : AtLot). listed (so-far .entries ++ afterLot (so-far .zone) s .entries) answer) next
         ∙ rw (add-one i, sweep-more (ruleAt c) i 1 (1 + i) z refl)

@@ -4,7 +4,6 @@ use mathlib.Core.Bool.{Bool, true, false, cond}
 use mathlib.Core.List.{List, [], _∷_}
 use mathlib.Core.Path.{_≡_, refl}
 use Prim.Native.Nat.{ℕ, zero, suc, _^_, _<_}
-use native.Mathlib.Nat.{le-of-suc-le-suc, not-suc-le-zero}
 use native.Mathlib.Omega.{arith}
 use lib.Dec.{eqb}
 use lib.ListN.{length}
@@ -16,7 +15,8 @@ use Rattle.rules.specs.Steps.{numberOn}
 use Rattle.image.specs.Image.{decode, encode}
 use Rattle.image.specs.Laws.RoundTrip.{decode-encode, valid-decode, decode-sized}
 use Rattle.answers.specs.Buffers.{callLength, callIn, entriesIn, acceptedAnswer}
-use Rattle.answers.specs.Laws.ReadBack.{Numbered, entries-back}
+use Rattle.answers.specs.Laws.Entries.{Numbered}
+use Rattle.answers.specs.Laws.ReadBack.{entries-back}
 use Rattle.crz.specs.Laws.Returned.{Left, refused, accepted, returned-case}
 use Rattle.crz.specs.Laws.Valid.{Zero, behind-0, new-valid}
 use Rattle.crz.specs.Returned.{afterBufferNumbers, callNumber, recordNumber, Returned}
@@ -32,9 +32,8 @@ numbers-fit : (es : List Entry) → EachEntry EntryFits es → NumbersFit es
 numbers-fit = each-map EntryFits (λ e. e .number < 2 ^ 32) (λ e f. f .number)
 
 pub numbered : (es : List Entry) → NumbersFit es → Numbered es
-numbered [] s k h = absurd (not-suc-le-zero h)
-numbered (e ∷ es) s zero h = s .0
-numbered (e ∷ es) s (suc k) h = numbered es (s .1) k (le-of-suc-le-suc h)
+numbered [] s = tt
+numbered (e ∷ es) s = (s .0, numbered es (s .1))
 
 -- ── Number 0 ───────────────────────────────────────────────────────────────────────────────────
 
