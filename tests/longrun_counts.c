@@ -664,8 +664,8 @@ static void show_tables(void)
     show_row("14", table_sizes[1], "++++++++");
     printf("%-22s %6s %6s %6s %6s\n", "reasons for 14", "many", "part", "short", "more");
     show_row("by itself, several", reasons, "++++");
-    printf("%-22s %6s %6s %6s %6s %6s %6s %6s\n", "bytes for answers", "-1,040", "-8n", "-1", "less", "enough",
-        "+1,040", "more");
+    printf("%-22s %6s %6s %6s %6s %6s %6s %6s\n", "bytes for answers", "-whole", "-8n", "-1", "less", "enough",
+        "+whole", "more");
     show_row("made", table_answers[0], "----+++");
     show_row("14", table_answers[1], "++++---");
     printf("%-22s %6s %6s %6s\n", "tables", "empty", "calls", "14");

@@ -260,5 +260,8 @@ pub fn image_ok(image: &[u8]) -> bool
         return false;
     }
     let day = image::day_in(image);
-    header_ok(image) & (1 <= day) & (day <= LAST_DAY) & asks_ok(image) & books_ok(image, total)
+    if !(header_ok(image) & (1 <= day) & (day <= LAST_DAY) & asks_ok(image)) {
+        return false;
+    }
+    books_ok(image, total)
 }

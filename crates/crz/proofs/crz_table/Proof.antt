@@ -3,6 +3,7 @@ use denote.Ref.{now}
 use mathlib.Core.Bool.{true}
 use mathlib.Core.List.{List}
 use mathlib.Core.Path.{_≡_, sym, ap, _∙_}
+use native.Mathlib.Omega.{arith}
 use borrow.Author.Tests.{not-true, not-false}
 use lib.ListN.{length}
 use Rattle.rules.specs.declared.Call.{Call}
@@ -37,7 +38,9 @@ read-calls-requires : tie.Need-read-calls-requires
 read-calls-requires c κs = fit (c .before .before .before) .bytes
 
 make-first-requires : tie.Need-make-first-requires
-make-first-requires c κs = (c .before .before .before .image-ok .ensures, fit (c .before .before .before .before .before) .few, fit (c .before .before .before .before .before) .room)
+make-first-requires c κs =
+    let f = fit (c .before .before .before .before .before) in
+    (c .before .before .before .image-ok .ensures, omega (arith, f .few), omega (arith, f .few, f .room))
 
 cast-result-2 : tie.Need-cast-result-2
 cast-result-2 c = search needs
