@@ -1,8 +1,10 @@
--- The bytes from its place on.
-use mathlib.Core.Path.{ap, _∙_}
+-- Four single bytes and the number, each at its place behind the entry's start.
+use mathlib.Core.Path.{sym, _∙_}
+use native.Mathlib.Omega.{arith}
 use denote.Ref.{now}
-use Rattle.image.specs.Laws.Table.{part-wide}
+use Rattle.image.specs.Laws.Table.{leAt-part}
 use Rattle.answers.specs.Buffers.{entryLength, entryPlace, entryIn}
+use Rattle.answers.specs.Laws.Entries.{entry-eq, byte-of}
 use borrow.Author.Needs.{needs}
 use Rattle.answers.proofs.entry_at.Statement.{statement}
 use Rattle.answers.proofs.entry_at.Tie as tie
@@ -13,23 +15,43 @@ mul-start c = search needs
 add-start : tie.Need-add-start
 add-start c = search needs
 
-add-end : tie.Need-add-end
-add-end c = search needs
+add-get-u32 : tie.Need-add-get-u32
+add-get-u32 c = search needs
 
-sub-entry-in : tie.Need-sub-entry-in
-sub-entry-in c = search needs
+get-u32-requires : tie.Need-get-u32-requires
+get-u32-requires c κs = search needs
 
-part-entry-in-start : tie.Need-part-entry-in-start
-part-entry-in-start c = search needs
+add-t5 : tie.Need-add-t5
+add-t5 c = search needs
 
-part-entry-in-end : tie.Need-part-entry-in-end
-part-entry-in-end c = search needs
+shared-slice-read-t7 : tie.Need-shared-slice-read-t7
+shared-slice-read-t7 c = search needs
 
-entry-in-requires : tie.Need-entry-in-requires
-entry-in-requires c κs = search needs
+add-t8 : tie.Need-add-t8
+add-t8 c = search needs
+
+shared-slice-read-t10 : tie.Need-shared-slice-read-t10
+shared-slice-read-t10 c = search needs
+
+add-t11 : tie.Need-add-t11
+add-t11 c = search needs
+
+shared-slice-read-t13 : tie.Need-shared-slice-read-t13
+shared-slice-read-t13 c = search needs
+
+add-t14 : tie.Need-add-t14
+add-t14 c = search needs
+
+shared-slice-read-t16 : tie.Need-shared-slice-read-t16
+shared-slice-read-t16 c = search needs
 
 returns : tie.Need-returns
-returns c = c .entry-in .ensures ∙ ap entryIn (part-wide (entryPlace (c .before .before .before .args .k)) entryLength (now (c .before .before .before .args .answer)))
+unfolding entryIn
+returns c =
+    let s = now (c .before .before .before .before .before .before .args .answer) in
+    let k = c .before .before .before .before .before .before .args .k in
+    entry-eq (byte-of s k 0 (omega arith)) (byte-of s k 1 (omega arith)) (byte-of s k 2 (omega arith)) (byte-of s k 3 (omega arith))
+    (c .before .before .before .before .get-u32 .ensures ∙ sym (leAt-part 4 s (entryPlace k) 4 entryLength (omega arith)))
 
 pub entry-at-spec : {M : Type 1} → statement M
 entry-at-spec =
@@ -37,9 +59,14 @@ entry-at-spec =
     (tie.spec
     mul-start
     add-start
-    add-end
-    sub-entry-in
-    part-entry-in-start
-    part-entry-in-end
-    entry-in-requires
+    add-get-u32
+    get-u32-requires
+    add-t5
+    shared-slice-read-t7
+    add-t8
+    shared-slice-read-t10
+    add-t11
+    shared-slice-read-t13
+    add-t14
+    shared-slice-read-t16
     returns)

@@ -4,8 +4,8 @@ use mathlib.Core.List.{List, [], _∷_, _++_, append-nil}
 use mathlib.Core.Path.{_≡_, refl, sym, ap, _∙_}
 use Prim.Native.Nat.{ℕ, zero, suc, _+_, _-_, _*_, _^_, _≤_, _<_}
 use native.Mathlib.Omega.{arith}
-use lib.ListN.{length, take, drop, length-drop}
-use lib.Seq.{sets, length-sets, length-take-le, take-all, take-add, drop-drop}
+use lib.ListN.{length, take, drop, getD, length-drop}
+use lib.Seq.{sets, length-sets, length-take-le, take-all, take-add, drop-drop, getD-take, getD-drop}
 use Rattle.wire.specs.LittleEndian.{leAt, leBytes, Bytes}
 use Rattle.wire.specs.Laws.Bytes.{leAt-leBytes, leBytes-leAt, leAt-lt, sets-append}
 use Rattle.rules.specs.declared.Entry.{Entry}
@@ -26,13 +26,18 @@ Numbered (e ∷ es) = (e .number < 2 ^ 32) × Numbered es
 
 -- ── One entry ──────────────────────────────────────────────────────────────────────────────────
 
-pub entry-eq : {l o f t n n′ : ℕ} → n ≡ n′ → _≡_ {A = Entry} (record { lot = l; outcome = o; from = f; to = t; number = n }) (record { lot = l; outcome = o; from = f; to = t; number = n′ })
-entry-eq e = cc
+pub entry-eq : {l l′ o o′ f f′ t t′ n n′ : ℕ} → l ≡ l′ → o ≡ o′ → f ≡ f′ → t ≡ t′ → n ≡ n′
+    → _≡_ {A = Entry} (record { lot = l; outcome = o; from = f; to = t; number = n }) (record { lot = l′; outcome = o′; from = f′; to = t′; number = n′ })
+entry-eq a b c d e = λ i. record { lot = a i; outcome = b i; from = c i; to = d i; number = e i }
+
+-- the bytes of entry k, where they stand in the answer
+pub byte-of : (answer : List ℕ) (k o : ℕ) → o < entryLength → getD answer (entryPlace k + o) 0 ≡ getD (runAt entriesStart entryLength answer k) o 0
+byte-of answer k o h = sym (getD-take entryLength (drop (entryPlace k) answer) o 0 h ∙ getD-drop (entryPlace k) answer o 0)
 
 -- an entry comes back from its bytes
 pub entry-back : (e : Entry) → e .number < 2 ^ 32 → entryIn (entryBytes e) ≡ e
 unfolding entryIn entryBytes leAt leBytes
-entry-back e h = entry-eq (leAt-leBytes 4 (e .number) [] [] h)
+entry-back e h = entry-eq refl refl refl refl (leAt-leBytes 4 (e .number) [] [] h)
 
 -- and bytes from their entry
 bytes-back : (b : List ℕ) → length b ≡ entryLength → Bytes b → entryBytes (entryIn b) ≡ b

@@ -115,7 +115,7 @@ enum-known-noted : tie.Need-enum-known-noted Inv-loop μ-loop
 enum-known-noted c = search needs
 
 put-entry-requires : tie.Need-put-entry-requires Inv-loop μ-loop
-put-entry-requires c κs = (omega (arith, still-long (c .before .before .before .before .before .before .before .before .before), c .before .before .before .before .before .before .before .before .before .before .before .before .before .before .pre .3), has-room (c .before .before .before .before .before .before .before .before))
+put-entry-requires c κs = (omega (arith, still-long (c .before .before .before .before .before .before .before .before .before), c .before .before .before .before .before .before .before .before .before .before .before .before .before .before .pre .3), omega (arith, has-room (c .before .before .before .before .before .before .before .before)))
 
 add-count : tie.Need-add-count Inv-loop μ-loop
 add-count c = omega (arith, has-room (c .before .before .before .before .before .before .before .before .before .before .before))
