@@ -264,7 +264,7 @@ uint32_t crz_call(uint8_t *image, size_t image_len, const uint8_t *call, size_t 
  * Each call finds the image that the one before it left, and has 1,040 bytes of the answers for itself: those of call i,
  * counted from 0, begin at byte 1,040 x i. Image and answers are those of as many calls of crz_call, made in the same
  * order: a refused call has its number in byte 0 of its own answer, and those behind it are made all the same. A table
- * without calls changes nothing. Bytes past the last answer keep their content.
+ * without calls leaves image and answers alone, and no table touches what lies behind its last answer.
  *
  * Returns 0, whatever the numbers of its calls; where the image is not valid, each answer has 2. Or returns 14, where
  * there are more than CRZ_TABLE_COUNT calls, calls_len is no multiple of 24, or answers_len is below 1,040 for each

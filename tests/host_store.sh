@@ -532,12 +532,12 @@ else
 fi
 
 # ── Kills ───────────────────────────────────────────────────────────────────────────────────────────
-# A kill at any moment leaves the old state or the new one, journal and image agreeing, and nothing shown is lost.
-"$crz" new killed >/dev/null
-last=0
-for round in $(seq 25); do
+# killed_in ROUND WORDS..: kills the program in the middle; `told` is how many calls it has shown as accepted
+killed_in() {
+    local round=$1 player
+    shift
     : >said
-    "$crz" play killed many >said 2>&1 &
+    "$crz" "$@" >said 2>&1 &
     player=$!
     # every other kill comes after the first answer, however slow the machine
     for _ in $(seq $((round % 2 * 1000))); do [ -s said ] && break; sleep 0.01; done
@@ -545,6 +545,13 @@ for round in $(seq 25); do
     kill -9 "$player" 2>/dev/null
     wait "$player" 2>/dev/null
     told=$(grep -c '^accepted' said)
+}
+
+# A kill at any moment leaves the old state or the new one, journal and image agreeing, and nothing shown is lost.
+"$crz" new killed >/dev/null
+last=0
+for round in $(seq 25); do
+    killed_in "$round" play killed many
     whole killed
     holds "round $round: journal and image agree" test $? -eq 0
     now=$(total killed)
@@ -557,14 +564,7 @@ holds "the kills came in the middle of the script: $last" test "$last" -gt 0 -a 
 "$crz" new killed.table >/dev/null
 last=0 cut=0
 for round in $(seq 25); do
-    : >said
-    "$crz" play killed.table many --table >said 2>&1 &
-    player=$!
-    for _ in $(seq $((round % 2 * 1000))); do [ -s said ] && break; sleep 0.01; done
-    sleep "0.0$((RANDOM % 90 + 10))"
-    kill -9 "$player" 2>/dev/null
-    wait "$player" 2>/dev/null
-    told=$(grep -c '^accepted' said)
+    killed_in "$round" play killed.table many --table
     whole killed.table
     holds "tables, round $round: journal and image agree" test $? -eq 0
     now=$(total killed.table)
