@@ -44,8 +44,7 @@ static int other_format(const char *name, unsigned format)
     return report(name,
         "is a zone of the older format %u; this program knows formats %d and %d and leaves the file as it was; the "
         "program that made it writes its image with 'crz export %s IMAGE', and 'crz import ZONE IMAGE' here takes "
-        "that, "
-        "or says which trades are to be finished first",
+        "that, or says which trades are to be finished first",
         format, STORE_FORMAT, STORE_FORMAT_TABLES, name);
 }
 

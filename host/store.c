@@ -653,7 +653,7 @@ static int put_format(struct store *store)
 enum commit store_commit(
     struct store *store, const uint8_t image[CRZ_IMAGE_LENGTH], const struct line *lines, size_t count)
 {
-    int bad = strcmp(lines[0].entry, ENTRY_TABLE) == 0 && put_format(store) != 0;
+    int bad = line_in_table(&lines[0]) && put_format(store) != 0;
     for (size_t i = 0; i < count && !bad; i++)
         bad = add_line(store, &lines[i]);
     bad = bad || put_zone(store, image, &lines[count - 1].hash) != 0 || stands(store, image, lines, count) != 0;

@@ -39,27 +39,27 @@ static int holds(struct finding finding)
     return finding.sentence == SENTENCE_NONE;
 }
 
-/* whether the call is answered as the vectors say and leaves what the history says */
-static int call_holds(const struct vector_step *step)
+/* crz_call and crz_table have one form */
+typedef uint32_t entry(
+    uint8_t *image, size_t image_len, const uint8_t *calls, size_t calls_len, uint8_t *answers, size_t answers_len);
+
+/* what was accepted: a call by the number that it returned, a table by that and by the number in each answer */
+static struct finding feed(const struct vector_step *step)
 {
-    struct finding finding = {SENTENCE_NONE, 0};
-    uint32_t number;
-    memset(answer, VECTOR_FILL, step->answer_len);
-    number = crz_call(image, sizeof image, step->call, step->call_len, answer, step->answer_len);
-    if (number == CRZ_NUMBER_ACCEPTED)
-        finding = history_feed(&history, step->call, answer);
-    return number == step->number && holds(finding);
+    if (step->kind == STEP_CALL)
+        return history_feed(&history, step->call, answer);
+    return feed_table(&history, step->call, step->call_len / CRZ_CALL_LENGTH, answer);
 }
 
-/* the same of a table of calls */
-static int table_holds(const struct vector_step *step)
+/* whether the entry answers as the vectors say and leaves what the history says */
+static int step_holds(const struct vector_step *step, entry *made)
 {
     struct finding finding = {SENTENCE_NONE, 0};
     uint32_t number;
     memset(answer, VECTOR_FILL, step->answer_len);
-    number = crz_table(image, sizeof image, step->call, step->call_len, answer, step->answer_len);
+    number = made(image, sizeof image, step->call, step->call_len, answer, step->answer_len);
     if (number == CRZ_NUMBER_ACCEPTED)
-        finding = feed_table(&history, step->call, step->call_len / CRZ_CALL_LENGTH, answer);
+        finding = feed(step);
     return number == step->number && holds(finding);
 }
 
@@ -68,8 +68,8 @@ static int make(const struct vector_step *step)
 {
     switch (step->kind) {
     case STEP_FRESH: return start();
-    case STEP_CALL: return call_holds(step);
-    case STEP_TABLE: return table_holds(step);
+    case STEP_CALL: return step_holds(step, crz_call);
+    case STEP_TABLE: return step_holds(step, crz_table);
     default: return 0;
     }
 }

@@ -358,7 +358,7 @@ static void try_one_other(size_t place, int accepted)
     try_table();
 }
 
-/* the same calls in a few short tables and in one: refused ones first, between and last */
+/* at each place of a full table, and first or last of two calls */
 static void try_refused_places(void)
 {
     size_t place;

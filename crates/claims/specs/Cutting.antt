@@ -77,8 +77,8 @@ confirmedSum k {start} {list} {image} m = cond (follow k m .over) (full (lotIn s
 
 -- ── The claims ─────────────────────────────────────────────────────────────────────────────────
 
--- Of every list of calls and tables from a valid image on: what the trade had been paid and what its outcomes 11 have paid since is the formula at its
--- confirmed sum.
+-- Of every list of calls and tables from a valid image on: what the trade had been paid and what its outcomes 11 have paid since is the
+-- formula at its confirmed sum.
 abbrev pub PartsBySum : Type 0
 PartsBySum =
     (start : List ℕ) (list : List Handed) (image : List ℕ) (made : MadeFrom start list image) → validImage start ≡ true

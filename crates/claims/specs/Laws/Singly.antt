@@ -7,7 +7,7 @@ use mathlib.Core.Path.{_≡_, refl, sym, ap, _∙_, subst}
 use Prim.Native.Nat.{ℕ, zero, suc, _+_, _*_, _≤_, _<_}
 use native.Mathlib.Nat.{le-of-suc-le-suc, not-suc-le-zero}
 use native.Mathlib.Omega.{arith}
-use borrow.Author.Tests.{ltb-false, le-ltb, le-leb, ne-eqb, eqb-false}
+use borrow.Author.Tests.{ltb-true, ltb-false, le-ltb, le-leb, ne-eqb, eqb-false}
 use lib.Dec.{eqb, ltb}
 use lib.ListN.{length, getD, take, drop, length-drop, length-append}
 use lib.Seq.{take-at, drop-at, drop-nil, drop-length, drop-drop, drop-append-add, length-take-le}
@@ -44,38 +44,41 @@ never-1 z c = go (stepOn z c) refl
     go (Refused n) q h = omega (arith, refused-by z c n q .high, h)
     go (Accepted a) q h = omega (arith, h)
 
-behind-buffers : (image answer : List ℕ) (n : ℕ) → n ≢ 1 → afterBufferNumbers image answer n ≢ 1 → answerLength ≤ length answer
-unfolding afterBufferNumbers
-behind-buffers image answer n o = go (ltb (length answer) answerLength) refl
-  where
-    go : (b : Bool) → ltb (length answer) answerLength ≡ b → cond b 1 (cond (not (validImage image)) 2 n) ≢ 1 → answerLength ≤ length answer
-    go true e h = absurd (h refl)
-    go false e h = ltb-false _ _ e
+-- an answer that is too short is refused by 1, and no other
+data ByAnswer (answer : List ℕ) (number : ℕ) : Type 0 where
+  too-short : length answer < answerLength → number ≡ 1 → ByAnswer answer number
+  long-enough : answerLength ≤ length answer → number ≢ 1 → ByAnswer answer number
 
--- a record that got another number than 1 had an answer that is long enough, and one that had is refused by another number
-long-answer : (image call answer : List ℕ) → recordNumber image call answer ≢ 1 → answerLength ≤ length answer
+behind-buffers : (image answer : List ℕ) (n : ℕ) → n ≢ 1 → ByAnswer answer (afterBufferNumbers image answer n)
+unfolding afterBufferNumbers
+behind-buffers image answer n o = go (ltb (length answer) answerLength) (validImage image) refl
+  where
+    go : (b v : Bool) → ltb (length answer) answerLength ≡ b → ByAnswer answer (cond b 1 (cond (not v) 2 n))
+    go true v e = too-short (ltb-true _ _ e) refl
+    go false true e = long-enough (ltb-false _ _ e) o
+    go false false e = long-enough (ltb-false _ _ e) (λ h. omega (arith, h))
+
+by-answer : (image call answer : List ℕ) → ByAnswer answer (recordNumber image call answer)
 unfolding recordNumber callNumber
-long-answer image call answer = go (eqb (length call) callLength)
+by-answer image call answer = go (eqb (length call) callLength)
   where
-    go : (b : Bool) → cond b (afterBufferNumbers image answer (numberOn (decode image) (callIn call))) (afterBufferNumbers image answer 3) ≢ 1 → answerLength ≤ length answer
-    go true h = behind-buffers image answer _ (never-1 (decode image) (callIn call)) h
-    go false h = behind-buffers image answer 3 (λ e. omega (arith, e)) h
+    go : (b : Bool) → ByAnswer answer (cond b (afterBufferNumbers image answer (numberOn (decode image) (callIn call))) (afterBufferNumbers image answer 3))
+    go true = behind-buffers image answer _ (never-1 (decode image) (callIn call))
+    go false = behind-buffers image answer 3 (λ e. omega (arith, e))
 
-buffers-other : (image answer : List ℕ) (n : ℕ) → answerLength ≤ length answer → n ≢ 1 → afterBufferNumbers image answer n ≢ 1
-unfolding afterBufferNumbers
-buffers-other image answer n h o = rw (le-ltb _ _ h) (go (validImage image))
+long-answer : (image call answer : List ℕ) → recordNumber image call answer ≢ 1 → answerLength ≤ length answer
+long-answer image call answer o = go (by-answer image call answer)
   where
-    go : (v : Bool) → cond (not v) 2 n ≢ 1
-    go true e = o e
-    go false e = omega (arith, e)
+    go : ByAnswer answer (recordNumber image call answer) → answerLength ≤ length answer
+    go (too-short h e) = absurd (o e)
+    go (long-enough h e) = h
 
 other-number : (image call answer : List ℕ) → answerLength ≤ length answer → recordNumber image call answer ≢ 1
-unfolding recordNumber callNumber
-other-number image call answer h = go (eqb (length call) callLength)
+other-number image call answer l = go (by-answer image call answer)
   where
-    go : (b : Bool) → cond b (afterBufferNumbers image answer (numberOn (decode image) (callIn call))) (afterBufferNumbers image answer 3) ≢ 1
-    go true = buffers-other image answer _ h (never-1 (decode image) (callIn call))
-    go false = buffers-other image answer 3 h (λ e. omega (arith, e))
+    go : ByAnswer answer (recordNumber image call answer) → recordNumber image call answer ≢ 1
+    go (too-short h e) = absurd (omega arith)
+    go (long-enough h e) = e
 
 -- ── The answer of one call ─────────────────────────────────────────────────────────────────────
 
@@ -125,6 +128,19 @@ pub data OneByOne (start : List ℕ) : List Exchange → List ℕ → Type 0 whe
       → Returned image call answer number image′ answer′
       → OneByOne start (record { call = call; number = number; answer = answer′ } ∷ list) image′
 
+-- answers for one call and n more: its own part has an answer's length before and after it, and the others have room behind it
+module _ (n : ℕ) (answers : List ℕ) (h : suc n * answerLength ≤ length answers) where
+  own-long : length (take answerLength answers) ≡ answerLength
+  own-long = length-take-le answerLength answers (omega arith)
+
+  made-long : (image call : List ℕ) → length (callEntry image call (take answerLength answers) .2) ≡ answerLength
+  made-long image call =
+      let r : Return = callEntry image call (take answerLength answers) in
+      same-long image call (take answerLength answers) (r .0) (r .1) (r .2) refl ∙ own-long
+
+  room-behind : n * answerLength ≤ length (drop answerLength answers)
+  room-behind = rw (length-drop answerLength answers) (omega arith)
+
 -- calls in turn, behind those that were made before
 calls-made : {start : List ℕ} {list : List Exchange} (calls : List (List ℕ)) {image : List ℕ} (answers : List ℕ) → length calls * answerLength ≤ length answers
     → OneByOne start list image → OneByOne start (callsOfTable calls (inTurn callEntry image calls answers .1) list) (inTurn callEntry image calls answers .0)
@@ -134,14 +150,12 @@ calls-made (call ∷ calls) {image} answers h m =
     let own : List ℕ = take answerLength answers in
     let r : Return = callEntry image call own in
     let rest = inTurn callEntry (r .1) calls (drop answerLength answers) in
-    let room : length calls * answerLength ≤ length (drop answerLength answers) = rw (length-drop answerLength answers) (omega arith) in
-    let wide : length own ≡ answerLength = length-take-le answerLength answers (omega arith) in
-    let long : length (r .2) ≡ answerLength = same-long image call own (r .0) (r .1) (r .2) refl ∙ wide in
+    let long : length (r .2) ≡ answerLength = made-long (length calls) answers h image call in
     rw (
       take-at (r .2) (rest .1) answerLength long,
       drop-at (r .2) (rest .1) answerLength long,
-      number-first image call own (r .0) (r .1) (r .2) refl (omega (arith, wide)),
-    ) (calls-made calls (drop answerLength answers) room (then m call own (r .0) (r .1) (r .2) refl))
+      number-first image call own (r .0) (r .1) (r .2) refl (omega (arith, own-long (length calls) answers h)),
+    ) (calls-made calls (drop answerLength answers) (room-behind (length calls) answers h) (then m call own (r .0) (r .1) (r .2) refl))
 
 -- a table's records are as many as its lengths say
 records-long : (calls : List ℕ) → length (callRecords calls) ≡ callCount calls
@@ -241,22 +255,19 @@ table-long : (calls : List (List ℕ)) (answers : List ℕ) (before : List Excha
 unfolding callsOfTable
 table-long [] answers before h b = b
 table-long (call ∷ calls) answers before h b =
-    table-long calls (drop answerLength answers) _ (rw (length-drop answerLength answers) (omega arith)) (length-take-le answerLength answers (omega arith), b)
+    table-long calls (drop answerLength answers) _ (room-behind (length calls) answers h) (own-long (length calls) answers h, b)
 
 -- calls in turn leave the answers as long as they were
 in-turn-long : (calls : List (List ℕ)) (image answers : List ℕ) → length calls * answerLength ≤ length answers → length (inTurn callEntry image calls answers .1) ≡ length answers
 unfolding inTurn
 in-turn-long [] image answers h = refl
 in-turn-long (call ∷ calls) image answers h =
-    let own : List ℕ = take answerLength answers in
-    let r : Return = callEntry image call own in
-    let room : length calls * answerLength ≤ length (drop answerLength answers) = rw (length-drop answerLength answers) (omega arith) in
+    let r : Return = callEntry image call (take answerLength answers) in
     length-append (r .2) _
     ∙ omega (
       arith,
-      same-long image call own (r .0) (r .1) (r .2) refl,
-      length-take-le answerLength answers (omega arith),
-      in-turn-long calls (r .1) (drop answerLength answers) room,
+      made-long (length calls) answers h image call,
+      in-turn-long calls (r .1) (drop answerLength answers) (room-behind (length calls) answers h),
       length-drop answerLength answers,
     )
 
@@ -275,15 +286,12 @@ rest-in-turn : (calls : List (List ℕ)) (image answers : List ℕ) → length c
 unfolding inTurn
 rest-in-turn [] image answers h = refl
 rest-in-turn (call ∷ calls) image answers h =
-    let own : List ℕ = take answerLength answers in
-    let r : Return = callEntry image call own in
+    let r : Return = callEntry image call (take answerLength answers) in
     let n : ℕ = length calls * answerLength in
-    let room : n ≤ length (drop answerLength answers) = rw (length-drop answerLength answers) (omega arith) in
-    let long : length (r .2) ≡ answerLength = same-long image call own (r .0) (r .1) (r .2) refl ∙ length-take-le answerLength answers (omega arith) in
-    let split : suc (length calls) * answerLength ≡ length (r .2) + n = omega (arith, long) in
+    let split : suc (length calls) * answerLength ≡ length (r .2) + n = omega (arith, made-long (length calls) answers h image call) in
     let whole : suc (length calls) * answerLength ≡ answerLength + n = omega arith in
     ap (λ (j : ℕ). drop j (r .2 ++ inTurn callEntry (r .1) calls (drop answerLength answers) .1)) split
-    ∙ drop-append-add (r .2) _ n ∙ rest-in-turn calls (r .1) (drop answerLength answers) room
+    ∙ drop-append-add (r .2) _ n ∙ rest-in-turn calls (r .1) (drop answerLength answers) (room-behind (length calls) answers h)
     ∙ drop-drop n answerLength answers ∙ ap (λ (j : ℕ). drop j answers) (sym whole)
 
 pub rest-kept : RestKept
@@ -349,8 +357,8 @@ bad-in-turn : (calls : List (List ℕ)) (image answers : List ℕ) → validImag
 unfolding inTurn
 bad-in-turn [] image answers v h = (refl, λ i l. absurd (not-suc-le-zero l))
 bad-in-turn (call ∷ calls) image answers v h =
-    let e = in-turn-first image call calls answers (bad-entry image call (take answerLength answers) v (length-take-le answerLength answers (omega arith))) in
-    let R = bad-in-turn calls image (drop answerLength answers) v (rw (length-drop answerLength answers) (omega arith)) in (
+    let e = in-turn-first image call calls answers (bad-entry image call (take answerLength answers) v (own-long (length calls) answers h)) in
+    let R = bad-in-turn calls image (drop answerLength answers) v (room-behind (length calls) answers h) in (
       ap (λ (r : List ℕ × List ℕ). r .0) e ∙ R .0,
       λ i l. ap (λ (r : List ℕ × List ℕ). runAt 0 answerLength (r .1) i) e ∙ each-run (length calls) (refusedAnswer 2 []) _ bad-long (R .1) i l,
     )

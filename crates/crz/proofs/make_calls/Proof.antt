@@ -5,7 +5,7 @@ use mathlib.Core.Path.{_≡_, refl, sym, ap, _∙_, subst}
 use Prim.Native.Nat.{ℕ, zero, suc, _+_, _-_, _*_, _<_, _≤_, _^_}
 use native.Mathlib.Omega.{arith}
 use mathlib.Core.Bool.{Bool}
-use mathlib.Core.List.{List, [], _∷_}
+use mathlib.Core.List.{List, [], _∷_, _++_, reverse}
 use lib.ListN.{length, getD, take, length-map}
 use lib.Seq.{length-take-le}
 use lib.WfN.{Nat·lt-wfRel}
@@ -71,6 +71,11 @@ use Rattle.crz.proofs.make_calls.Code as code
 use Rattle.crz.proofs.make_calls.Code.Mir as m
 
 -- ── Numbers ────────────────────────────────────────────────────────────────────────────────────
+
+-- n places of a list, a step apart
+abbrev places : (first step n : ℕ) → List ℕ
+places first step zero = []
+places first step (suc n) = first ∷ places (first + step) step n
 
 one-more : (i : ℕ) → i + 1 ≡ suc i
 one-more i = omega arith
@@ -313,7 +318,7 @@ module _ {M : Type 1} (𝓤 : URA M) (H : Heap 𝓤) (A : Atoms 𝓤) (W : Given
         rewrite ! 11 (λ (j : ℕ). ‵ (fat fullShare word l₅ 0 (vint w64 j))) (one-more i) refl $
         rewrite ! 25 (λ (j : ℕ). ‵ (fat fullShare slice l₁ 0 (sliceVal (b, o) j))) (sym l) refl $
         rewrite ! 28 (λ (j : ℕ). ‵ (fat fullShare slice₃ l₄ 0 (sliceVal (b₂, o₂) j))) (sym (same-len-mid (i * answerLength) answerLength av (ws .1 .1 .1 .0) l′)) refl $
-        keep ! (3 ∷ 4 ∷ 9 ∷ 10 ∷ 0 ∷ 1 ∷ 11 ∷ 12 ∷ 13 ∷ 14 ∷ 15 ∷ 16 ∷ 17 ∷ 18 ∷ 19 ∷ 20 ∷ 21 ∷ 22 ∷ 23 ∷ 24 ∷ 25 ∷ 26 ∷ 27 ∷ 28 ∷ 29 ∷ 30 ∷ 31 ∷ 32 ∷ 33 ∷ 34 ∷ 35 ∷ 36 ∷ 37 ∷ 38 ∷ 39 ∷ 40 ∷ 41 ∷ 42 ∷ 43 ∷ 44 ∷ 45 ∷ 46 ∷ 47 ∷ 48 ∷ []) $ by ! (k r (ws .0) (ws .1 .1 .1 .0) e l l′))))))))))))))
+        keep ! (3 ∷ 4 ∷ 9 ∷ 10 ∷ 0 ∷ 1 ∷ places 11 1 38) $ by ! (k r (ws .0) (ws .1 .1 .1 .0) e l l′))))))))))))))
       where
         c : Call
         c = getD ys i noCall
@@ -396,7 +401,7 @@ module _ {M : Type 1} (𝓤 : URA M) (H : Heap 𝓤) (A : Atoms 𝓤) (W : Given
       pass1 ! (init ! 34 refl (tt, (tt, (record { fits = gx .0 }, tt)))) $ pass1 ! (init ! 32 refl (tt, tt)) $ pass1 ! (init ! 30 refl (tt, (tt, (record { fits = gn .0 }, tt)))) $ pass1 ! (init ! 28 refl (tt, (tt, (record { fits = ga .0 }, tt)))) $ pass0 ! $
       assigns ! (of-opd ! (lit ! tt)) (from ! (stop !)) (init ! 26 refl (tt, record { fits = lit< tt })) $
       move ! (39 ∷ []) $ fsplit ! $ move ! (1 ∷ []) $ fsplit ! $ move ! (1 ∷ []) $ fsplit ! $ move ! (1 ∷ []) $ fsplit ! $ move ! (43 ∷ []) $ split ! $ move ! (1 ∷ []) $ split ! $ move ! (1 ∷ []) $ split ! $
-      keep ! (8 ∷ 3 ∷ 6 ∷ 2 ∷ 4 ∷ 0 ∷ 35 ∷ 33 ∷ 31 ∷ 29 ∷ 27 ∷ 25 ∷ 23 ∷ 21 ∷ 19 ∷ 17 ∷ 15 ∷ 13 ∷ 11 ∷ 9 ∷ 43 ∷ 41 ∷ 39 ∷ 37 ∷ 45 ∷ 46 ∷ 44 ∷ 42 ∷ 40 ∷ 38 ∷ 36 ∷ 34 ∷ 32 ∷ 30 ∷ 28 ∷ 26 ∷ 24 ∷ 22 ∷ 20 ∷ 18 ∷ 16 ∷ 14 ∷ 12 ∷ 10 ∷ []) $ by ! (loops 𝓣 fm known gx gn ga l₀ l₁ l₂ l₃ l₄ l₅ l₆ l₇ l₈ l₉ l₁₀ l₁₁ l₁₂ l₁₃ l₁₄ l₁₅ l₁₆ l₁₇ l₁₈))))))))))))))))))))
+      keep ! (8 ∷ 3 ∷ 6 ∷ 2 ∷ 4 ∷ 0 ∷ reverse (places 9 2 14) ++ reverse (places 37 2 4) ++ 45 ∷ reverse (places 10 2 19)) $ by ! (loops 𝓣 fm known gx gn ga l₀ l₁ l₂ l₃ l₄ l₅ l₆ l₇ l₈ l₉ l₁₀ l₁₁ l₁₂ l₁₃ l₁₄ l₁₅ l₁₆ l₁₇ l₁₈))))))))))))))))))))
 
 module _ {M : Type 1} (𝓤 : URA M) (H : Heap 𝓤) (A : Atoms 𝓤) (W : Given 𝓤 H A) (mem : Memory → SProp 𝓤) (go : Routine → Fun 𝓤) where
   this-walks : (𝓣 : Tables 𝓤 H) → Triple 𝓤 (𝓣 .C #crz·make-call) (One 𝓤 H A mem go) → Walks 𝓤 H A this.ended stayed (WpFn 𝓤 H (𝓣 .C) (𝓣 .Λ) code.function) (this.clauses 𝓤 H A mem go)
