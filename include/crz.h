@@ -36,9 +36,9 @@ extern "C" {
 /* ── Version of this interface ─────────────────────────────────────────────────────────────────── */
 
 #define CRZ_VERSION_MAJOR 3
-#define CRZ_VERSION_MINOR 1
+#define CRZ_VERSION_MINOR 2
 #define CRZ_VERSION_PATCH 0
-#define CRZ_VERSION "3.1.0"
+#define CRZ_VERSION "3.2.0"
 
 /* ── Lengths and counts ────────────────────────────────────────────────────────────────────────── */
 
@@ -49,6 +49,8 @@ extern "C" {
 #define CRZ_ASK_LENGTH 4
 #define CRZ_RECEIPT_LENGTH 36
 #define CRZ_ENTRY_LENGTH 8
+#define CRZ_FIGURE_LENGTH 8
+#define CRZ_FIGURES_LENGTH 768 /* a figure for each account */
 
 #define CRZ_ACCOUNT_COUNT 96
 #define CRZ_RECEIPT_COUNT 128
@@ -85,7 +87,7 @@ extern "C" {
 
 enum crz_number {
     CRZ_NUMBER_ACCEPTED = 0,
-    CRZ_NUMBER_SHORT_ANSWER = 1,    /* answer buffer under 1,040 bytes; nothing is written */
+    CRZ_NUMBER_SHORT_ANSWER = 1,    /* answer buffer under 1,040 bytes, or figures under 768; nothing is written */
     CRZ_NUMBER_BAD_IMAGE = 2,       /* image not 6,208 bytes or not valid */
     CRZ_NUMBER_BAD_CALL = 3,        /* call record not of 24 bytes, of no known kind, or with a field too many */
     CRZ_NUMBER_OUT_OF_RANGE = 4,    /* field out of range */
@@ -272,6 +274,22 @@ uint32_t crz_call(uint8_t *image, size_t image_len, const uint8_t *call, size_t 
  */
 uint32_t crz_table(uint8_t *image, size_t image_len, const uint8_t *calls, size_t calls_len, uint8_t *answers,
                    size_t answers_len);
+
+/*
+ * Writes what each account has to pay in before the morning close; the image is only read. A lot is due where its due
+ * day is today or earlier. An account is asked for CRZ_PENALTY for each due lot in CRZ_STATE_PENALTY_DUE whose seller
+ * it is, and, for each due lot in CRZ_STATE_STRUCK or CRZ_STATE_LODGED whose buyer it is, for what the full payment has
+ * above CRZ_DEPOSIT, if anything. Its figure is the sum less its free money, or 0 where that covers it. In an afternoon
+ * every figure is 0.
+ *
+ * Returns 0, and the figures stand in the first 768 bytes: a u64 in fen for each account, account 1 first. Or returns 1
+ * where figures_len is below 768, else 2 where the image is not of 6,208 bytes or not valid; then nothing is written.
+ * Bytes past 768 keep their content in every case.
+ *
+ * An account that pays its figure in, with no other call made before the morning close, is the buyer of no default in
+ * it, whoever else is short.
+ */
+uint32_t crz_shortfalls(const uint8_t *image, size_t image_len, uint8_t *figures, size_t figures_len);
 
 #ifdef __cplusplus
 }

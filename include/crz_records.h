@@ -421,4 +421,14 @@ static inline uint64_t crz_next_part(const struct crz_receipt_fields *receipt)
     return receipt->pending != 0 && paid > receipt->paid ? paid - receipt->paid : 0;
 }
 
+/* ── Shortfalls ────────────────────────────────────────────────────────────────────────────────── */
+
+/* What an account has to pay in, fen; 0 for a number that is no account. */
+static inline uint64_t crz_get_figure(const uint8_t figures[CRZ_FIGURES_LENGTH], uint32_t account)
+{
+    if (!crz_is_place(account, CRZ_ACCOUNT_COUNT))
+        return 0;
+    return crz_get_u64(figures + (size_t)CRZ_FIGURE_LENGTH * (account - 1));
+}
+
 #endif
