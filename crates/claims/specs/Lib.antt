@@ -14,4 +14,5 @@ pub mod PremiumTrades
 pub mod Cutting
 pub mod CutTrades
 pub mod FrozenSums
+pub mod Shortfalls
 pub mod Laws
