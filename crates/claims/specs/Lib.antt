@@ -15,4 +15,5 @@ pub mod Cutting
 pub mod CutTrades
 pub mod FrozenSums
 pub mod Shortfalls
+pub mod ShortfallTrades
 pub mod Laws
