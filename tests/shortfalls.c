@@ -973,8 +973,9 @@ static void ask_lengths_of_image(void)
 }
 
 /* of the zone that is there, in this phase */
-static void ask_badly(enum crz_phase phase)
+static void ask_badly(const char *name, enum crz_phase phase)
 {
+    part = name;
     zone[CRZ_IMAGE_PHASE] = (uint8_t)phase;
     ask_all_lengths();
     ask_huge_lengths();
@@ -993,13 +994,12 @@ static void ask_badly(enum crz_phase phase)
 
 static void try_lengths(void)
 {
-    start_fresh("lengths, no lots", 1);
-    ask_badly(CRZ_PHASE_MORNING);
-    ask_badly(CRZ_PHASE_AFTERNOON);
+    start_fresh("lengths", 1);
+    ask_badly("lengths, no lots in the morning", CRZ_PHASE_MORNING);
+    ask_badly("lengths, no lots in the afternoon", CRZ_PHASE_AFTERNOON);
     draw_zone(DAY, 100, CRZ_ACCOUNT_COUNT);
-    part = "lengths, all lots";
-    ask_badly(CRZ_PHASE_MORNING);
-    ask_badly(CRZ_PHASE_AFTERNOON);
+    ask_badly("lengths, all lots in the morning", CRZ_PHASE_MORNING);
+    ask_badly("lengths, all lots in the afternoon", CRZ_PHASE_AFTERNOON);
     expect(crz_shortfalls(NULL, 0, NULL, 0) == CRZ_NUMBER_SHORT_ANSWER, "no buffer at all");
 }
 
