@@ -248,18 +248,29 @@ static void show_lengths(void)
     show_row("images", bad_images, "++++");
 }
 
-static void show_due_lots(void)
+static void show_due_days(void)
 {
     unsigned i;
     printf("%-22s %6s %6s %6s %6s %6s\n", "lots, by due day", "long", "past", "today", "tomorr", "later");
     for (i = 0; i < WORKED; i++)
         show_row(worked_names[i], dues[i], "+++++");
+}
+
+static void show_ends(void)
+{
+    unsigned i;
     printf("%-22s %6s %6s %6s %6s\n", "due lots", "lot 1", "lot128", "acct 1", "acct96");
     for (i = 0; i < WORKED; i++)
         show_row(worked_names[i], ends[i], "++++");
+}
+
+static void show_due_lots(void)
+{
+    show_due_days();
+    show_ends();
     printf("%-22s %6s %6s %6s %6s %6s\n", "full of a due trade", "dep.-1", "dep.", "dep.+1", "least", "most");
-    for (i = 0; i < PENALTY; i++)
-        show_row(worked_names[i], fulls[i], "+++++");
+    show_row(worked_names[STRUCK], fulls[STRUCK], "+++++");
+    show_row(worked_names[LODGED], fulls[LODGED], "+++++");
     printf("%-22s %6s %6s %6s\n", "lots that are left", "bid", "settl.", "first");
     show_row("due day past or none", left, "+++");
 }

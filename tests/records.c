@@ -510,11 +510,14 @@ static uint32_t ask(void)
 static void figure_places(void)
 {
     uint32_t account, other = 0;
-    for (account = 1; account <= CRZ_ACCOUNT_COUNT; account++)
-        crz_put_u64(shortfalls + CRZ_FIGURE_LENGTH * (account - 1), UINT64_C(0x0102030405060708) * account);
-    for (account = 1; account <= CRZ_ACCOUNT_COUNT; account++)
-        other += crz_get_figure(shortfalls, account) != UINT64_C(0x0102030405060708) * account;
+    for (account = 1; account <= CRZ_ACCOUNT_COUNT; account++) {
+        memset(shortfalls, 0, sizeof shortfalls);
+        crz_put_u64(shortfalls + CRZ_FIGURE_LENGTH * (account - 1), UINT64_C(0x0102030405060708) + account);
+        other += crz_get_figure(shortfalls, account) != UINT64_C(0x0102030405060708) + account;
+        other += crz_get_figure(shortfalls, account % CRZ_ACCOUNT_COUNT + 1) != 0;
+    }
     expect(other == 0, "figures by account");
+    memset(shortfalls, 0xff, sizeof shortfalls);
     expect(crz_get_figure(shortfalls, 0) == 0 && crz_get_figure(shortfalls, CRZ_ACCOUNT_COUNT + 1) == 0, "no account");
     expect(crz_get_figure(shortfalls, UINT32_MAX) == 0, "no account at all");
     expect(CRZ_FIGURES_LENGTH == CRZ_ACCOUNT_COUNT * CRZ_FIGURE_LENGTH, "the figures' length");
