@@ -267,6 +267,16 @@ uint64_t stray_image(uint8_t *image)
     }
 }
 
+uint64_t fill_to_limit(uint8_t *image)
+{
+    uint64_t total = crz_get_total(image), wanted = CRZ_TOTAL_MOST - 1 + below(3);
+    if (wanted < total)
+        wanted = total;
+    add_to(account_in(image, some_account()) + CRZ_ACCOUNT_FREE, wanted - total);
+    crz_put_u64(image + CRZ_IMAGE_TOTAL, wanted);
+    return 0;
+}
+
 /* ── Lots that are due ─────────────────────────────────────────────────────────────────────────── */
 
 /* price, basis, premium and weight; the full payment is a fen below the deposit, the deposit, a fen above, the least,
@@ -380,15 +390,5 @@ uint64_t due_image(uint8_t *image)
         put_due_lots(image);
     fit_free(image);
     rebook(image);
-    return 0;
-}
-
-uint64_t fill_to_limit(uint8_t *image)
-{
-    uint64_t total = crz_get_total(image), wanted = CRZ_TOTAL_MOST - 1 + below(3);
-    if (wanted < total)
-        wanted = total;
-    add_to(account_in(image, some_account()) + CRZ_ACCOUNT_FREE, wanted - total);
-    crz_put_u64(image + CRZ_IMAGE_TOTAL, wanted);
     return 0;
 }
