@@ -19,7 +19,7 @@ programs = {
     "buffers": (["tests/buffers.c", "tests/lent.c"], as_library),
     "cuts": (["tests/cuts.c"], as_library),
     "damage": (["tests/damage.c"], []),
-    "shortfalls": (["tests/shortfalls.c", "tests/lent.c"], as_library),
+    "shortfalls": (sorted(glob.glob("tests/shortfalls*.c")) + ["tests/lent.c"], as_library),
     "tables": (["tests/tables.c", "tests/lent.c"], as_library),
 }
 

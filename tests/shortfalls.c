@@ -5,13 +5,13 @@
  * one whose only part in the close is one trade that it buys defaults where it has paid a fen less. Some zones have
  * figures that are written down here. Lengths of both buffers, images that are not valid, and what must stay as it was
  * are tried on all sorts of zones; the image is lent for reading alone. The edges that the zones must have between them
- * are counted, and one that is missing is a failure.
+ * are counted (shortfalls_edges.c), and one that is missing is a failure.
  *
  * shortfalls         all of it. The last line is 'N passed, M failed'
  * shortfalls first   ends at the first failure
  */
-#include "../include/crz_records.h"
 #include "lent.h"
+#include "shortfalls_edges.h"
 
 #include <stdio.h>
 #include <stdlib.h>
@@ -40,224 +40,6 @@ static void expect(int ok, const char *what)
         printf("0 passed, 1 failed\n");
         exit(1);
     }
-}
-
-/* ── Edges ─────────────────────────────────────────────────────────────────────────────────────── */
-
-enum edge {
-    STRUCK_TODAY,
-    STRUCK_TOMORROW,
-    STRUCK_PAST,
-    LODGED_TODAY,
-    LODGED_TOMORROW,
-    LODGED_PAST,
-    PENALTY_TODAY,
-    PENALTY_TOMORROW,
-    PENALTY_PAST,
-    BID_STANDS,
-    SETTLED_DUE,
-    FIRST_PAID_DUE,
-    FEN_BELOW_DEPOSIT,
-    JUST_DEPOSIT,
-    FEN_ABOVE_DEPOSIT,
-    CHEAP_ALONE,
-    CHEAP_BESIDE_DEAR,
-    SEVERAL_DEAR,
-    SEVERAL_PENALTIES,
-    SELLER_AND_BUYER,
-    FREE_JUST_ENOUGH,
-    FREE_FEN_SHORT,
-    FREE_FEN_OVER,
-    FREE_NONE,
-    FROZEN_WOULD_DO,
-    PENALTY_OF_FIRST,
-    PENALTY_OF_LAST,
-    TRADE_OF_FIRST,
-    TRADE_OF_LAST,
-    LOT_1_STRUCK,
-    LOT_1_LODGED,
-    LOT_1_PENALTY,
-    LOT_128_STRUCK,
-    LOT_128_LODGED,
-    LOT_128_PENALTY,
-    MOST_PAYMENTS,
-    MOST_PENALTIES,
-    FULL_TREASURY,
-    AFTERNOON_DUE,
-    OTHERS_SHORT,
-    FEN_LESS_STRUCK,
-    FEN_LESS_LODGED,
-    FEN_LESS_NO_CALL,
-    REACHED_BY_CALLS,
-    EDGES
-};
-
-static const char *const edge_names[EDGES] = {
-    [STRUCK_TODAY] = "struck and due today",
-    [STRUCK_TOMORROW] = "struck and due tomorrow",
-    [STRUCK_PAST] = "struck and due long ago",
-    [LODGED_TODAY] = "lodged and due today",
-    [LODGED_TOMORROW] = "lodged and due tomorrow",
-    [LODGED_PAST] = "lodged and due long ago",
-    [PENALTY_TODAY] = "a penalty due today",
-    [PENALTY_TOMORROW] = "a penalty due tomorrow",
-    [PENALTY_PAST] = "a penalty due long ago",
-    [BID_STANDS] = "a bid stands",
-    [SETTLED_DUE] = "settled, due day past",
-    [FIRST_PAID_DUE] = "first paid, due day past",
-    [FEN_BELOW_DEPOSIT] = "full a fen below the deposit",
-    [JUST_DEPOSIT] = "full just the deposit",
-    [FEN_ABOVE_DEPOSIT] = "full a fen above the deposit",
-    [CHEAP_ALONE] = "a cheap trade by itself",
-    [CHEAP_BESIDE_DEAR] = "a cheap trade beside a dear one",
-    [SEVERAL_DEAR] = "several dear trades",
-    [SEVERAL_PENALTIES] = "penalties of several lots",
-    [SELLER_AND_BUYER] = "seller with a penalty and buyer",
-    [FREE_JUST_ENOUGH] = "free money just enough",
-    [FREE_FEN_SHORT] = "free money a fen short",
-    [FREE_FEN_OVER] = "free money a fen over",
-    [FREE_NONE] = "no free money",
-    [FROZEN_WOULD_DO] = "frozen money that would do",
-    [PENALTY_OF_FIRST] = "a penalty of account 1",
-    [PENALTY_OF_LAST] = "a penalty of account 96",
-    [TRADE_OF_FIRST] = "a trade of account 1",
-    [TRADE_OF_LAST] = "a trade of account 96",
-    [LOT_1_STRUCK] = "lot 1 struck",
-    [LOT_1_LODGED] = "lot 1 lodged",
-    [LOT_1_PENALTY] = "lot 1 with a penalty",
-    [LOT_128_STRUCK] = "lot 128 struck",
-    [LOT_128_LODGED] = "lot 128 lodged",
-    [LOT_128_PENALTY] = "lot 128 with a penalty",
-    [MOST_PAYMENTS] = "the dearest trade in 128 lots",
-    [MOST_PENALTIES] = "penalties of 128 lots",
-    [FULL_TREASURY] = "a total at its limit",
-    [AFTERNOON_DUE] = "lots due in an afternoon",
-    [OTHERS_SHORT] = "others short in the close",
-    [FEN_LESS_STRUCK] = "a fen less for a struck lot",
-    [FEN_LESS_LODGED] = "a fen less for a lodged lot",
-    [FEN_LESS_NO_CALL] = "a fen less than a fen",
-    [REACHED_BY_CALLS] = "figures above 0 after calls alone",
-};
-
-static unsigned long edges[EDGES];
-
-/* what an account has to do with the lots that the close works */
-struct party {
-    unsigned parts, penalties, trades, cheap, dear;
-    uint32_t trade; /* the last that it buys */
-    uint64_t wanted;
-};
-
-static struct party parties[CRZ_ACCOUNT_COUNT + 1];
-
-static int is_trade(uint32_t state)
-{
-    return state == CRZ_STATE_STRUCK || state == CRZ_STATE_LODGED;
-}
-
-static void survey_trade(struct party *buyer, uint32_t lot, uint64_t full)
-{
-    buyer->trades++;
-    buyer->trade = lot;
-    buyer->cheap += full < CRZ_DEPOSIT;
-    buyer->dear += full > CRZ_DEPOSIT;
-    if (full > CRZ_DEPOSIT)
-        buyer->wanted += full - CRZ_DEPOSIT;
-}
-
-static void survey_lot(uint32_t lot)
-{
-    struct crz_receipt_fields receipt = crz_get_receipt(zone, lot);
-    struct party *seller = &parties[receipt.seller], *buyer = &parties[receipt.buyer];
-    if ((!is_trade(receipt.state) && receipt.state != CRZ_STATE_PENALTY_DUE) || receipt.due > crz_get_day(zone))
-        return;
-    seller->parts++;
-    buyer->parts++;
-    if (is_trade(receipt.state)) {
-        survey_trade(buyer, lot, crz_full_payment(&receipt));
-        return;
-    }
-    seller->penalties++;
-    seller->wanted += CRZ_PENALTY;
-}
-
-static void survey(void)
-{
-    uint32_t lot;
-    memset(parties, 0, sizeof parties);
-    for (lot = 1; lot <= CRZ_RECEIPT_COUNT; lot++)
-        survey_lot(lot);
-}
-
-/* of a lot that the close works if it is due: today, tomorrow, long ago */
-static void count_due(uint32_t due, enum edge today)
-{
-    uint32_t day = crz_get_day(zone);
-    edges[today] += due == day;
-    edges[today + 1] += due == day + 1;
-    edges[today + 2] += due + 50 < day;
-}
-
-static void count_lot(uint32_t lot)
-{
-    struct crz_receipt_fields receipt = crz_get_receipt(zone, lot);
-    uint64_t full = crz_full_payment(&receipt);
-    int due = receipt.due <= crz_get_day(zone), first = due && lot == 1, last = due && lot == CRZ_RECEIPT_COUNT;
-    int trade = is_trade(receipt.state), penalty = receipt.state == CRZ_STATE_PENALTY_DUE;
-    if (trade || penalty) {
-        uint32_t state = penalty ? 2 : receipt.state - CRZ_STATE_STRUCK;
-        count_due(receipt.due, (enum edge)(STRUCK_TODAY + 3 * state));
-        edges[LOT_1_STRUCK + state] += first != 0;
-        edges[LOT_128_STRUCK + state] += last != 0;
-    }
-    edges[BID_STANDS] += receipt.state == CRZ_STATE_BID_STANDS;
-    edges[SETTLED_DUE] += due && receipt.state == CRZ_STATE_SETTLED;
-    edges[FIRST_PAID_DUE] += due && receipt.state == CRZ_STATE_FIRST_PAID;
-    edges[FEN_BELOW_DEPOSIT] += trade && due && full + 1 == CRZ_DEPOSIT;
-    edges[JUST_DEPOSIT] += trade && due && full == CRZ_DEPOSIT;
-    edges[FEN_ABOVE_DEPOSIT] += trade && due && full == CRZ_DEPOSIT + 1;
-}
-
-static void count_party(uint32_t account)
-{
-    const struct party *p = &parties[account];
-    struct crz_account_fields money = crz_get_account(zone, account);
-    int first = account == 1, last = account == CRZ_ACCOUNT_COUNT, asked = p->wanted > 0;
-    edges[CHEAP_ALONE] += p->cheap > 0 && p->trades == p->cheap;
-    edges[CHEAP_BESIDE_DEAR] += p->cheap > 0 && p->dear > 0;
-    edges[SEVERAL_DEAR] += p->dear > 1;
-    edges[SEVERAL_PENALTIES] += p->penalties > 1;
-    edges[SELLER_AND_BUYER] += p->penalties > 0 && p->dear > 0;
-    edges[FREE_JUST_ENOUGH] += asked && money.free == p->wanted;
-    edges[FREE_FEN_SHORT] += asked && money.free + 1 == p->wanted;
-    edges[FREE_FEN_OVER] += asked && money.free == p->wanted + 1;
-    edges[FREE_NONE] += asked && money.free == 0;
-    edges[FROZEN_WOULD_DO] += money.free < p->wanted && money.free + money.frozen >= p->wanted;
-    edges[PENALTY_OF_FIRST] += first && p->penalties > 0 && money.free < p->wanted;
-    edges[PENALTY_OF_LAST] += last && p->penalties > 0 && money.free < p->wanted;
-    edges[TRADE_OF_FIRST] += first && p->dear > 0 && money.free < p->wanted;
-    edges[TRADE_OF_LAST] += last && p->dear > 0 && money.free < p->wanted;
-}
-
-static void count_lots(void)
-{
-    uint32_t lot;
-    for (lot = 1; lot <= CRZ_RECEIPT_COUNT; lot++)
-        count_lot(lot);
-}
-
-static void count_parties(void)
-{
-    uint32_t account;
-    for (account = 1; account <= CRZ_ACCOUNT_COUNT; account++)
-        count_party(account);
-}
-
-/* of a zone in the morning */
-static void count_edges(void)
-{
-    count_lots();
-    count_parties();
 }
 
 /* ── One question ──────────────────────────────────────────────────────────────────────────────── */
@@ -459,7 +241,7 @@ static void expect_valid(void)
 static void try_zone(void)
 {
     zones++;
-    survey();
+    survey(zone);
     zone[CRZ_IMAGE_PHASE] = CRZ_PHASE_AFTERNOON;
     expect_valid();
     ask_all_ways();
@@ -467,7 +249,7 @@ static void try_zone(void)
     expect_valid();
     ask_all_ways();
     edges[AFTERNOON_DUE] += !all(figures.bytes, CRZ_FIGURES_LENGTH, 0);
-    count_edges();
+    count_edges(zone);
     pay_by_figures();
 }
 
@@ -801,7 +583,7 @@ static uint64_t draw_free(uint64_t wanted)
 static void draw_money(void)
 {
     uint32_t account;
-    survey();
+    survey(zone);
     for (account = 1; account <= CRZ_ACCOUNT_COUNT; account++)
         put_free(account, draw_free(parties[account].wanted));
     book();
@@ -885,7 +667,7 @@ static void pay_in_some(void)
 {
     uint8_t call[CRZ_CALL_LENGTH];
     uint32_t account;
-    survey();
+    survey(zone);
     for (account = 1; account <= CRZ_ACCOUNT_COUNT; account++) {
         uint64_t fen = draw_free(parties[account].wanted) + CRZ_DEPOSIT * (uint64_t)below(3);
         crz_put_pay_in(call, account, fen);
