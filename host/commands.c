@@ -9,6 +9,7 @@
 #include <unistd.h>
 
 #include "digits.h"
+#include "due.h"
 #include "file.h"
 #include "json.h"
 #include "print.h"
