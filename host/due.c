@@ -1,10 +1,13 @@
 #include "due.h"
 
+#include <inttypes.h>
 #include <stdio.h>
 
 #include "digits.h"
 #include "json.h"
 #include "words.h"
+
+/* ── Lots ──────────────────────────────────────────────────────────────────────────────────────── */
 
 /* A lot that the close of the day works. */
 static int is_due(const struct crz_receipt_fields *r, uint32_t day)
@@ -28,10 +31,11 @@ static uint64_t lacking(uint64_t needed, uint64_t has)
     return needed > has ? needed - has : 0;
 }
 
+/* All of the account's free money is counted for each of its lots; what they take together is the account's figure. */
 static void print_lacking(uint64_t fen)
 {
     if (fen != 0)
-        printf(", lacks %s fen", grouped(fen).text);
+        printf(", lacks %s fen for this lot alone", grouped(fen).text);
     putchar('\n');
 }
 
@@ -86,6 +90,61 @@ static void show_due_lots(const uint8_t *image, uint32_t day, int json)
     }
 }
 
+/* ── Accounts ──────────────────────────────────────────────────────────────────────────────────── */
+
+/* What each account has to pay in before today's morning close, by the library. Returns 0, or -1 after a message. */
+static int read_figures(const uint8_t *image, uint8_t figures[CRZ_FIGURES_LENGTH])
+{
+    uint32_t number = crz_shortfalls(image, CRZ_IMAGE_LENGTH, figures, CRZ_FIGURES_LENGTH);
+    return number == CRZ_NUMBER_ACCEPTED
+               ? 0
+               : report(NULL, "the library returns %" PRIu32 " where it is asked for the shortfalls", number);
+}
+
+/* What its due lots ask for is the figure and the free money that was taken off, since the figure is above 0. */
+static void print_shortfall(const uint8_t *image, uint32_t account, uint64_t fen)
+{
+    uint64_t has = crz_get_account(image, account).free;
+    printf("  account %u has to pay in %s fen before the morning close\n", account, grouped(fen).text);
+    printf("      its due lots together ask for %s fen beyond deposits, it has %s fen free\n", grouped(fen + has).text,
+        grouped(has).text);
+}
+
+static void json_shortfall(uint32_t account, uint64_t fen)
+{
+    json_open("shortfall");
+    json_number("account", account);
+    json_number("fen", fen);
+    json_close();
+}
+
+/* In an afternoon no figure says what tomorrow's close will ask for, whatever is due then. */
+static void print_nobody(int today)
+{
+    if (today)
+        puts("nobody has to pay in before the morning close");
+    else
+        puts("today's close is made, nothing is to be paid in for it; what to pay in for tomorrow's is shown after the "
+             "day close");
+}
+
+static void show_shortfalls(const uint8_t *image, const uint8_t *figures, int today, int json)
+{
+    uint32_t count = 0;
+    for (uint32_t a = 1; a <= CRZ_ACCOUNT_COUNT; a++) {
+        uint64_t fen = crz_get_figure(figures, a);
+        count += fen > 0 ? 1 : 0;
+        if (fen > 0 && json)
+            json_shortfall(a, fen);
+        else if (fen > 0)
+            print_shortfall(image, a, fen);
+    }
+    if (count == 0 && !json)
+        print_nobody(today);
+}
+
+/* ── The close ─────────────────────────────────────────────────────────────────────────────────── */
+
 /* Day 0 where no close comes any more. */
 static void show_close(uint32_t day, int today, uint32_t lots, int json)
 {
@@ -103,14 +162,19 @@ static void show_close(uint32_t day, int today, uint32_t lots, int json)
     }
 }
 
-void print_due(const uint8_t image[CRZ_IMAGE_LENGTH], int json)
+enum status print_due(const uint8_t image[CRZ_IMAGE_LENGTH], int json)
 {
+    uint8_t figures[CRZ_FIGURES_LENGTH];
     int today = crz_get_phase(image) == CRZ_PHASE_MORNING;
     uint32_t day = crz_get_day(image) + (today ? 0 : 1);
+    if (read_figures(image, figures) != 0)
+        return STATUS_NOTHING_DONE;
     if (day > CRZ_DAY_MOST) {
         show_close(0, 0, 0, json);
-        return;
+        return STATUS_ACCEPTED;
     }
     show_close(day, today, count_due(image, day), json);
     show_due_lots(image, day, json);
+    show_shortfalls(image, figures, today, json);
+    return STATUS_ACCEPTED;
 }
