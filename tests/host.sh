@@ -524,6 +524,12 @@ for seed in 131 91; do
     ends 0 "1,500 of them in 47 tables" verify "tables.$seed"
     holds "the same zone in tables" cmp -s <("$crz" show "desk.$seed") <("$crz" show "tables.$seed")
 done
+# Many accounts are short: the first run ends in a morning in which some have to pay in, the second in an afternoon.
+for seed in 16 53; do
+    desk "desk.$seed" "$seed" --short
+done
+holds "some have to pay in at the end: $(asked desk.16)" test "$(asked desk.16 | wc -w)" -eq 4
+asks_nobody desk.53 "$made"
 
 # ── Tables of calls ─────────────────────────────────────────────────────────────────────────────────
 # words ZONE: the calls of its log, as a script
@@ -719,8 +725,8 @@ objects 'assert kinds["close"][0]["lots"] == 1 and kinds["due"][0]["penalty_fen"
 objects 'assert list(kinds) == ["close", "due", "shortfall"] and kinds["shortfall"] == [{"type": "shortfall", "account": a, "fen": fen}
     for a, fen in ((3, 3800000), (11, 56185220), (12, 1), (13, 58092610), (16, 56092610))]' due short
 objects 'assert kinds["close"] == [{"type": "close", "day": 2, "today": True, "lots": 8}] and len(kinds["due"]) == 8' due short
-objects 'assert kinds["close"] == [{"type": "close", "day": 3, "today": False, "lots": 1}] and "shortfall" not in kinds' due all.paid
-objects 'assert kinds["due"][0]["buyer"] == 15 and kinds["due"][0]["lacks_fen"] == 58092610' due all.paid
+objects 'assert kinds["close"] == [{"type": "close", "day": 3, "today": False, "lots": 2}] and "shortfall" not in kinds' due all.paid
+objects 'assert [(d["lot"], d["lacks_fen"]) for d in kinds["due"]] == [(4, 0), (6, 58092610)]' due all.paid
 objects 'assert list(kinds) == ["close"] and kinds["close"][0]["today"]' due unused
 objects 'c = kinds["call"][0]; assert c["accepted"] and c["number"] == 0 and c["sequence"] == 35 and c["reason"] is None' \
     call day pay-in account 96 fen 3
