@@ -726,7 +726,7 @@ objects 'assert list(kinds) == ["close", "due", "shortfall"] and kinds["shortfal
     for a, fen in ((3, 3800000), (11, 56185220), (12, 1), (13, 58092610), (16, 56092610))]' due short
 objects 'assert kinds["close"] == [{"type": "close", "day": 2, "today": True, "lots": 8}] and len(kinds["due"]) == 8' due short
 objects 'assert kinds["close"] == [{"type": "close", "day": 3, "today": False, "lots": 2}] and "shortfall" not in kinds' due all.paid
-objects 'assert [(d["lot"], d["lacks_fen"]) for d in kinds["due"]] == [(4, 0), (6, 58092610)]' due all.paid
+objects 'assert [(d["lot"], d["lacks_fen"]) for d in kinds["due"]] == [(4, 5000000), (6, 58092610)]' due all.paid
 objects 'assert list(kinds) == ["close"] and kinds["close"][0]["today"]' due unused
 objects 'c = kinds["call"][0]; assert c["accepted"] and c["number"] == 0 and c["sequence"] == 35 and c["reason"] is None' \
     call day pay-in account 96 fen 3

@@ -1,9 +1,9 @@
 """A desk with books of its own: host_desk.py PROGRAM ZONE SEED CALLS [--short] [--table]
 
 Plays random calls through the program on a fresh zone, one by one or in tables, and compares each answer, with the
-words of each refusal, what due says every 32 calls, and then what show and statement say, with books that are kept here
-apart. In copies of the zone accounts pay in what due asks of them, or a fen less, and the morning close is made. With
---short many accounts are short of money. The last line is 'N passed, M failed'.
+words of each refusal, what due says from time to time, and then what show and statement say, with books that are kept
+here apart. In copies of the zone accounts pay in what due asks of them, or a fen less, and the morning close is made.
+With --short many accounts are short of money. The last line is 'N passed, M failed'.
 """
 import copy
 import json
@@ -498,10 +498,11 @@ def compare_tables(check, said, played, options):
 
 
 def play(check, program, zone, books, seed, calls, short, options):
-    """Plays the calls, as many at a time as a table has, and asks each time what is due: what was said, and wanted."""
+    """Plays the calls in parts of whole tables and asks after each part what is due: what was said, and wanted."""
     chance, said, wanted = random.Random(seed), [], []
-    for place in range(0, calls, TABLE):
-        script, more = make_script(books, chance, min(TABLE, calls - place), short)
+    part = TABLE if short else 5 * TABLE
+    for place in range(0, calls, part):
+        script, more = make_script(books, chance, min(part, calls - place), short)
         said += objects(program, "play", zone, "-", *options, script=script.encode())
         wanted += more
         compare_due(check, program, zone, books)
