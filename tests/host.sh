@@ -911,7 +911,7 @@ holds "the README's samples" test $? -eq 0
 sed -n '/^`open.txt`:$/,/^one commit/s/^    //p' "$here/docs/GUIDE.md" >guide/open.txt
 (cd guide && python3 "$here/tests/host_samples.py" "$crz" "$here/docs/GUIDE.md")
 holds "the guide's samples" test $? -eq 0
-ends 0 "replay: 39 calls compared, 5 of them in 1 table, 38 accepted and 1 refused" verify guide/target/day.crz
+ends 0 "replay: 42 calls compared, 5 of them in 1 table, 41 accepted and 1 refused" verify guide/target/day.crz
 # guided NUMBER NAME: a program with the guide's lines in C of that number, on an image from standard input
 guided() {
     cat >"$2.c" <<'END'
@@ -931,6 +931,7 @@ END
 }
 holds "the guide's lines in C" guided 1 ours
 holds "the guide's table of calls in C" guided 2 ours.table
+holds "the guide's shortfalls in C" guided 3 ours.figures
 "$crz" new ours.zone >/dev/null && "$crz" export ours.zone ours.image >/dev/null
 holds "what it prints: $(./ours.table <ours.image)" test "$(./ours.table <ours.image)" = "call 0: number 0
 call 1: number 11
@@ -939,6 +940,13 @@ head -c "$image_length" /dev/zero >ours.zeros
 holds "and on no valid image" test "$(./ours.table <ours.zeros)" = "call 0: number 2
 call 1: number 2
 call 2: number 2"
+holds "what the figures are: $(./ours.figures <short.image)" test "$(./ours.figures <short.image)" = "account 3 has to pay in 3800000 fen
+account 11 has to pay in 56185220 fen
+account 12 has to pay in 1 fen
+account 13 has to pay in 58092610 fen
+account 16 has to pay in 56092610 fen"
+holds "and on no valid image" test "$(./ours.figures <ours.zeros)" = "number 2, no figures"
+holds "and where nobody has to pay in" test -z "$(./ours.figures <ours.image)"
 # on the image of an invoice that waits
 "$crz" call cut.thirds invoice account 1 receipt 3 fen 4 >/dev/null && "$crz" export cut.thirds thirds.image >/dev/null
 holds "what they print: $(./ours <thirds.image)" test "$(./ours <thirds.image)" = "lot 3: left to invoice 30 fen
