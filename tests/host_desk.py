@@ -626,9 +626,9 @@ def close_after(check, program, zone, books, pay_ins):
 
 
 def one_trade(books, account):
-    """One due trade as buyer and no part in any other due lot."""
+    """Whether the account has a part in a single due lot, and buys it."""
     due = [books.lots[n] for n in books.due_lots(books.day)]
-    return len([lot for lot in due if account in (lot.seller, lot.buyer)]) == 1 == len(books.asked_lots(account)[1])
+    return [lot for lot in due if account in (lot.seller, lot.buyer)] == books.asked_lots(account)[1][:1]
 
 
 def compare_pay_ins(check, program, zone, books):
