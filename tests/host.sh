@@ -458,6 +458,20 @@ holds "the accounts stand behind the lots" test "$(sed -n 's/^  \([a-z]\+\) .*/\
 holds "where somebody has to pay in, it does not say nobody" test "$(grep -c nobody short.due)" -eq 0
 "$crz" export short short.image >/dev/null && "$crz" due short >/dev/null && "$crz" export short short.again >/dev/null
 holds "asking changes nothing" cmp -s short.image short.again
+# moved NAME OFFSET NUMBER: a zone with that image, one byte of it another
+moved() {
+    python3 -c 'import sys; b = bytearray(open("short.image", "rb").read()); b[int(sys.argv[2])] = int(sys.argv[3])
+open(sys.argv[1], "wb").write(b)' "$1.image" "$(named "$2")" "$3"
+    "$crz" import "$1" "$1.image" >/dev/null
+}
+moved afternoon CRZ_IMAGE_PHASE 1
+ends 0 "the next morning close, of day 3 (tomorrow: today's is made), works 9 lots" due afternoon
+asks_nobody afternoon "$made" # though lots are left that were due today
+moved overdue CRZ_IMAGE_DAY 3
+holds "what was due yesterday is due: $(asked overdue)" test "$(asked overdue)" = "3=3800000 11=56185220 12=1 13=58092610 15=58092610 16=56092610 "
+moved early CRZ_IMAGE_DAY 1
+ends 0 "the next morning close, of day 1 (today), works 0 lots" due early
+asks_nobody early "$nobody"
 # close_after NAME ACCOUNT=FEN..: these pay in, then comes the close; NAME.due and NAME.said are what is said before and of it
 close_after() {
     local name=$1 one
