@@ -2,7 +2,6 @@
 -- Assumes nothing.
 use mathlib.Core.List.{List, [], _∷_, _++_}
 use mathlib.Core.Path.{_≡_, refl}
-use Prim.Native.Nat.{ℕ}
 use lib.IntN.{pos, negsuc}
 use Rattle.zone.specs.declared.Zone.{Zone}
 use Rattle.zone.specs.Held.{full}
@@ -14,7 +13,7 @@ use Rattle.rules.specs.View.{freeOf, receiptOfNumber}
 use Rattle.shortfalls.specs.Shortfalls.{passesBy, penaltiesDue, paymentsDue, shortfall}
 use Rattle.claims.specs.History.{Reply}
 use Rattle.claims.specs.Replay.{replyTo, zoneAfter}
-use Rattle.claims.specs.Words.{payIn, registers, lists, bids, quote, lodges, morningClose, dayClose, noEntries, oneEntry}
+use Rattle.claims.specs.Words.{payIn, registers, lists, bids, quote, lodges, morningClose, dayClose, oneEntry}
 
 -- ginner 1 lists a receipt of 41,237 kilograms for today, and mill 2, who has paid in one deposit for it, is struck at 15,000: full is
 -- 63,092,610 (example 1)

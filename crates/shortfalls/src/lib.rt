@@ -4,10 +4,10 @@ ghost use mathlib.Core.Path.{_≡_};
 ghost use Prim.Native.Nat.{_≤_, _<_};
 ghost use lib.ListN.{length};
 ghost use lib.Seq.{sets};
-ghost use Rattle.units.specs.Ranges.{receiptCount};
+ghost use Rattle.units.specs.Payments.{fen};
 ghost use Rattle.zone.specs.Valid.{recordValid};
 ghost use Rattle.image.specs.Image.{validImage, decode};
-ghost use Rattle.image.specs.Layout.{imageLength, receiptRun, recordIn, afternoonIn};
+ghost use Rattle.image.specs.Layout.{afternoonIn};
 ghost use Rattle.shortfalls.specs.Shortfalls.{passesBy, figuresLength, figureBytes};
 ghost use Rattle.shortfalls.specs.Walk.{askedOf, askedSums};
 use units::ACCOUNTS;
@@ -28,10 +28,10 @@ pub const FIGURES_LENGTH: usize = ACCOUNTS * FIGURE_LENGTH;
 
 // ── What a lot asks ─────────────────────────────────────────────────────────────────────────────
 
-fn passes_by(n: u64, m: u64) -> u64
-    ensures { λ r. ⌜ r ≡ passesBy n m ⌝ }
+fn passes_by(n: Fen, m: Fen) -> Fen
+    ensures { λ r. ⌜ r ≡ fen (passesBy (n .0) (m .0)) ⌝ }
 {
-    if m < n { n - m } else { 0 }
+    if m.0 < n.0 { Fen(n.0 - m.0) } else { Fen(0) }
 }
 
 // A due lot asks its seller for the penalty, or its buyer for what full has above the deposit.
@@ -54,7 +54,7 @@ fn asked_of(r: Record, day: u16) -> Hold
     if (STATE_STRUCK <= s) & (s <= STATE_LODGED) {
         return Hold {
             from: buyer,
-            fen: Fen(passes_by(validity::full_of(r).0, PER_RECEIPT)),
+            fen: passes_by(validity::full_of(r), units::deposit_per_receipt()),
         };
     }
     verdict::no_hold()
@@ -91,8 +91,9 @@ fn put_morning_figures(image: &[u8], figures: &mut [u8])
     let sums = asked_sums(image, image::day_in(image));
     let mut i: usize = 0;
     while i < ACCOUNTS {
-        let free = image::account_at(image, i).free.0;
-        wire::put_u64(figures, i * FIGURE_LENGTH, passes_by(sums[i].0, free));
+        let a = image::account_at(image, i);
+        let figure = passes_by(sums[i], a.free);
+        wire::put_u64(figures, i * FIGURE_LENGTH, figure.0);
         i += 1;
     }
 }

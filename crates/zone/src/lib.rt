@@ -107,7 +107,7 @@ pub struct Record {
     pub premium: Premium,
 }
 
-// From whom a lot holds money, and how much.
+// Money and whose it is: what a lot holds from an account, or asks it for.
 pub struct Hold {
     pub from: u8,
     pub fen: Fen,

@@ -1,13 +1,11 @@
 -- What the figures promise, on bytes: a pay-in and a morning close by what the calls promise, and what holds of them on values.
 -- Assumes nothing.
-use mathlib.Core.Bool.{Bool, true, false, cond}
-use mathlib.Core.List.{List, [], _∷_, _++_}
+use mathlib.Core.Bool.{true, false}
+use mathlib.Core.List.{List, _++_}
 use mathlib.Core.Path.{_≡_, refl, sym, ap, _∙_, subst}
-use Prim.Native.Nat.{ℕ, zero, suc, _+_, _*_, _^_, _≤_, _<_}
+use Prim.Native.Nat.{ℕ, zero, suc, _+_, _^_, _≤_}
 use native.Mathlib.Omega.{arith}
-use borrow.Author.Tests.{ltb-true, ltb-false}
-use lib.Dec.{ltb}
-use lib.ListN.{length, drop}
+use lib.ListN.{drop}
 use lib.Seq.{drop-at}
 use Rattle.units.specs.Payments.{fen}
 use Rattle.units.specs.Ranges.{accountCount, receiptCount}
@@ -17,31 +15,28 @@ use Rattle.zone.specs.Laws.Held.{fenFrom-same}
 use Rattle.zone.specs.Laws.Tests.{InRange, range-in}
 use Rattle.zone.specs.Record.{recordOf}
 use Rattle.rules.specs.declared.Call.{Call}
-use Rattle.rules.specs.declared.Entry.{Entry}
-use Rattle.rules.specs.Effects.{ruleAt, opening, firstLot, lotCount, ending, atLots, effect}
+use Rattle.rules.specs.Effects.{ruleAt, opening, firstLot, lotCount, ending, effect}
 use Rattle.rules.specs.Events.{sweep}
 use Rattle.rules.specs.Laws.Good.{Good}
 use Rattle.rules.specs.Laws.Kinds.{withKind}
 use Rattle.rules.specs.Laws.Moves.{free-credit}
-use Rattle.rules.specs.Laws.Passed.{PassedAt, passed-at, as-kind, ranges-at}
+use Rattle.rules.specs.Laws.Passed.{passed-at, as-kind, ranges-at}
 use Rattle.rules.specs.Numbers.{wrongPhase}
 use Rattle.rules.specs.Order.{answerOrder}
 use Rattle.rules.specs.Steps.{numberOn}
 use Rattle.rules.specs.View.{freeOf, receiptOfNumber, recordOfReceipt, viewOf}
-use Rattle.image.specs.Image.{validImage, decode, encode}
-use Rattle.image.specs.Layout.{afternoonIn}
+use Rattle.image.specs.Image.{validImage, decode}
 use Rattle.answers.specs.Buffers.{callIn, entriesIn}
 use Rattle.shortfalls.specs.Laws.Asked.{passes-covers, passes-exact}
 use Rattle.shortfalls.specs.Laws.Figures.{length-figures, figure-there, shortfall-le}
 use Rattle.shortfalls.specs.Shortfalls.{passesBy, penaltiesDue, paymentsDue, shortfall, figuresLength, figureBytes}
 use Rattle.crz.specs.Figures.{ShortfallsReturned}
 use Rattle.crz.specs.Laws.Figures.{FiguresLeft, too-short, bad-image, written, figures-left, image-left}
-use Rattle.crz.specs.Laws.Valid.{Zero, good-image, new-valid}
-use Rattle.crz.specs.Returned.{Returned}
+use Rattle.crz.specs.Laws.Valid.{good-image}
 use Rattle.claims.specs.Cutting.{lotIn}
-use Rattle.claims.specs.Laws.Calls.{AcceptedCall, accepted-call, new-zone, read-back}
+use Rattle.claims.specs.Laws.Calls.{accepted-call, new-zone, read-back}
 use Rattle.claims.specs.Laws.Covered.{close-quiet, close-short}
-use Rattle.claims.specs.Shortfalls.{ImageLeft, PastLeft, RefusedBy, tooShort, badImage, RefusesAlone, figureIn, FigureOf, FiguresRead, NoneInAfternoon, PaidIn, noCall, byCall, Closed, NoDefaultOf, PaidInSuffices, OneTrade, DefaultOf, FenLessDefaults}
+use Rattle.claims.specs.Shortfalls.{ImageLeft, PastLeft, RefusedBy, tooShort, badImage, RefusesAlone, figureIn, FiguresRead, NoneInAfternoon, PaidIn, noCall, byCall, Closed, NoDefaultOf, PaidInSuffices, DefaultOf, FenLessDefaults}
 
 -- ── What the entry leaves ──────────────────────────────────────────────────────────────────────
 

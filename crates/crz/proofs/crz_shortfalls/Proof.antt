@@ -5,10 +5,8 @@ use mathlib.Core.Path.{_≡_, sym, ap, _∙_}
 use Prim.Native.Nat.{ℕ}
 use borrow.Author.Tests.{lt-ltb, le-ltb, not-true, not-false}
 use denote.Ref.{now}
-use lib.ListN.{length}
 use Rattle.image.specs.Image.{validImage, decode}
 use Rattle.shortfalls.specs.Laws.Figures.{figures-put}
-use Rattle.shortfalls.specs.Shortfalls.{figuresLength}
 use Rattle.crz.specs.Figures.{shortfallsEntry}
 use borrow.Author.Needs.{needs}
 use Rattle.crz.proofs.crz_shortfalls.Statement.{statement}

@@ -1,3 +1,4 @@
+-- Before it is due a lot asks nothing; then its state decides.
 use mathlib.Core.Bool.{true}
 use mathlib.Core.Path.{_≡_}
 use borrow.Author.Tests.{eq-eqb, ne-eqb, le-leb, lt-leb}
@@ -7,11 +8,6 @@ use Rattle.shortfalls.specs.Walk.{askedOf}
 use borrow.Author.Needs.{needs}
 use Rattle.shortfalls.proofs.asked_of.Statement.{statement}
 use Rattle.shortfalls.proofs.asked_of.Tie as tie
-use Rattle.shortfalls.proofs.asked_of.Reads as reads
-use Rattle.shortfalls.proofs.asked_of.Lts as lts
-use Rattle.shortfalls.proofs.passes_by.Reads as passes-by-reads
-use Rattle.validity.proofs.full_of.Reads as full-of-reads
-use Rattle.verdict.proofs.no_hold.Reads as no-hold-reads
 
 no-hold-requires : tie.Need-no-hold-requires
 no-hold-requires c κs = search needs
@@ -27,14 +23,17 @@ returns-2 c = rw (le-leb _ _ (c .before .if1 .left), eq-eqb _ _ (c .if2 .taken))
 full-of-requires : tie.Need-full-of-requires
 full-of-requires c κs = bounds (c .before .before .before .before .args .r) (c .before .before .before .before .pre) .weight
 
+deposit-per-receipt-requires : tie.Need-deposit-per-receipt-requires
+deposit-per-receipt-requires c κs = search needs
+
 passes-by-requires : tie.Need-passes-by-requires
 passes-by-requires c κs = search needs
 
 returns-3 : tie.Need-returns-3
 unfolding askedOf
 returns-3 c =
-    let t : within 3 4 (c .before .before .before .before .before .before .args .r .state) ≡ true = c .before .before .if3 .taken in
-    rw (le-leb _ _ (c .before .before .before .before .if1 .left), ne-eqb _ _ (c .before .before .before .if2 .left), t, c .passes-by .ensures, c .before .full-of .ensures)
+    let t : within 3 4 (c .before .before .before .before .before .before .before .args .r .state) ≡ true = c .before .before .before .if3 .taken in
+    rw (le-leb _ _ (c .before .before .before .before .before .if1 .left), ne-eqb _ _ (c .before .before .before .before .if2 .left), t, c .passes-by .ensures, c .before .before .full-of .ensures, c .before .deposit-per-receipt .ensures)
 
 no-hold-requires-2 : tie.Need-no-hold-requires-2
 no-hold-requires-2 c κs = search needs
@@ -51,6 +50,7 @@ asked-of-spec =
     returns
     returns-2
     full-of-requires
+    deposit-per-receipt-requires
     passes-by-requires
     returns-3
     no-hold-requires-2

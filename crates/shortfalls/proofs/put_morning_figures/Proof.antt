@@ -6,28 +6,18 @@ use native.Mathlib.Omega.{arith}
 use denote.Ref.{now}
 use lib.ListN.{length, take, getD}
 use lib.Seq.{sets, take-all, length-sets}
-use Rattle.units.specs.Ranges.{accountCount}
 use Rattle.units.specs.declared.Fen.{Fen}
+use Rattle.units.specs.Ranges.{accountCount}
 use Rattle.wire.specs.LittleEndian.{leBytes}
-use Rattle.zone.specs.declared.Account.{Account}
 use Rattle.image.specs.Image.{decode}
-use Rattle.image.specs.Layout.{accountRun, accountIn}
-use Rattle.image.specs.Table.{tableBytes}
 use Rattle.image.specs.Laws.RoundTrip.{valid-long}
 use Rattle.image.specs.Laws.Table.{length-table, getD-table, put-more}
-use Rattle.verdict.specs.Laws.Sums.{sumAt}
-use Rattle.shortfalls.specs.Shortfalls.{passesBy, shortfall, figureLength, figuresOf, figureBytes}
+use Rattle.image.specs.Table.{tableBytes}
 use Rattle.shortfalls.specs.Laws.Figures.{morning-figure, figure-wide}
+use Rattle.shortfalls.specs.Shortfalls.{shortfall, figureLength, figuresOf, figureBytes}
 use borrow.Author.Needs.{needs}
 use Rattle.shortfalls.proofs.put_morning_figures.Statement.{statement}
 use Rattle.shortfalls.proofs.put_morning_figures.Tie as tie
-use Rattle.shortfalls.proofs.put_morning_figures.Reads as reads
-use Rattle.shortfalls.proofs.put_morning_figures.Lts as lts
-use Rattle.image.proofs.account_at.Reads as account-at-reads
-use Rattle.image.proofs.day_in.Reads as day-in-reads
-use Rattle.shortfalls.proofs.asked_sums.Reads as asked-sums-reads
-use Rattle.shortfalls.proofs.passes_by.Reads as passes-by-reads
-use Rattle.wire.proofs.put_u64.Reads as put-u64-reads
 
 abbrev Inv-loop : tie.InvT-loop
 Inv-loop image figures₀ sums i₀ figures i =
@@ -49,20 +39,20 @@ loop-holds c = (omega arith, refl)
 account-at-requires : tie.Need-account-at-requires Inv-loop μ-loop
 account-at-requires c κs = (valid-long _ (c .before .before .before .before .before .before .pre .0), omega arith)
 
-mul-put-u64 : tie.Need-mul-put-u64 Inv-loop μ-loop
-mul-put-u64 c = search needs
-
 mul-passes-by : tie.Need-mul-passes-by Inv-loop μ-loop
 mul-passes-by c = search needs
 
-element-copy-out-passes-by : tie.Need-element-copy-out-passes-by Inv-loop μ-loop
-element-copy-out-passes-by c = search needs
+array-copy-out-passes-by : tie.Need-array-copy-out-passes-by Inv-loop μ-loop
+array-copy-out-passes-by c = search needs
 
 passes-by-requires : tie.Need-passes-by-requires Inv-loop μ-loop
 passes-by-requires c κs = search needs
 
+mul-put-u64 : tie.Need-mul-put-u64 Inv-loop μ-loop
+mul-put-u64 c = search needs
+
 put-u64-requires : tie.Need-put-u64-requires Inv-loop μ-loop
-put-u64-requires c κs = omega (arith, c .before .before .before .before .before .before .before .before .before .pre .2, simp length-sets at (ap length (c .before .before .before .before .loop .inv .1)))
+put-u64-requires c κs = omega (arith, c .before .before .before .before .before .before .before .before .before .before .pre .2, simp length-sets at (ap length (c .before .before .before .before .before .loop .inv .1)))
 
 add-i : tie.Need-add-i Inv-loop μ-loop
 add-i c = search needs
@@ -72,20 +62,19 @@ loop-less c = search needs
 
 loop-again : tie.Need-loop-again Inv-loop μ-loop
 loop-again c =
-    let s = now (c .before .before .before .before .before .before .before .before .before .before .before .before .args .image) in
-    let old = now (c .before .before .before .before .before .before .before .before .before .before .before .before .args .figures) in
-    let l = c .before .before .before .before .before .before .before .loop in
+    let s = now (c .before .before .before .before .before .before .before .before .before .before .before .before .before .args .image) in
+    let old = now (c .before .before .before .before .before .before .before .before .before .before .before .before .before .args .figures) in
+    let l = c .before .before .before .before .before .before .before .before .loop in
     let all = figuresOf (decode s) in
     let h : l .i < length all = rw (length-table accountCount _) (omega arith) in
-    let f : c .before .before .before .passes-by .result ≡ getD all (l .i) 0 =
-    c .before .before .before .passes-by .ensures
-    ∙ rw (c .before .before .before .before .before .before .before .before .asked-sums .ensures, c .before .before .before .before .before .before .before .before .before .day-in .ensures, c .before .before .before .before .before .account-at .ensures)
-    (sym (morning-figure s (c .before .before .before .before .before .before .before .before .before .before .before .before .pre .0) (c .before .before .before .before .before .before .before .before .before .before .before .before .pre .1) (l .i) (omega arith)))
+    let f : c .before .before .before .before .passes-by .result .0 ≡ getD all (l .i) 0 =
+    ap (λ (n : Fen). n .0) (c .before .before .before .before .passes-by .ensures)
+    ∙ rw (c .before .before .before .before .before .before .before .before .before .asked-sums .ensures, c .before .before .before .before .before .before .before .before .before .before .day-in .ensures, c .before .before .before .before .before .before .account-at .ensures) (sym (morning-figure s (c .before .before .before .before .before .before .before .before .before .before .before .before .before .pre .0) (c .before .before .before .before .before .before .before .before .before .before .before .before .before .pre .1) (l .i) (omega arith)))
     ∙ sym (getD-table accountCount (λ k. shortfall (decode s) (suc k)) (l .i) 0 (omega arith)) in
     let place : 0 + l .i * figureLength ≡ l .i * figureLength = omega arith in (
       omega arith,
       c .before .before .put-u64 .ensures
-          ∙ ap (λ (b : List ℕ). sets b (l .i * figureLength) (leBytes figureLength (c .before .before .before .passes-by .result))) (l .inv .1)
+          ∙ ap (λ (b : List ℕ). sets b (l .i * figureLength) (leBytes figureLength (c .before .before .before .before .passes-by .result .0))) (l .inv .1)
           ∙ ap (λ (n : ℕ). sets (sets old 0 (tableBytes (leBytes figureLength) (take (l .i) all))) (l .i * figureLength) (leBytes figureLength n)) f
           ∙ (rw place at (put-more (leBytes figureLength) figureLength figure-wide old 0 all (l .i) 0 h)),
     )
@@ -111,10 +100,10 @@ put-morning-figures-spec =
     asked-sums-requires
     loop-holds
     account-at-requires
-    mul-put-u64
     mul-passes-by
-    element-copy-out-passes-by
+    array-copy-out-passes-by
     passes-by-requires
+    mul-put-u64
     put-u64-requires
     add-i
     loop-less

@@ -2,16 +2,14 @@
 -- Assumes nothing.
 use mathlib.Core.Bool.{Bool, true, false, cond, _&&_}
 use mathlib.Core.List.{List, [], _∷_, map}
-use mathlib.Core.Path.{_≡_, refl, sym, ap, _∙_}
-use Prim.Native.Nat.{ℕ, zero, suc, _+_, _-_, _*_, _^_, _≤_, _<_}
+use mathlib.Core.Path.{_≡_, refl, _∙_}
+use Prim.Native.Nat.{ℕ, _+_, _-_, _≤_, _<_}
 use native.Mathlib.Omega.{arith}
 use borrow.Author.Tests.{eqb-true, ltb-true, ltb-false}
-use lib.Dec.{eqb, leb, ltb}
-use lib.ListN.{length, getD, drop, length-drop}
-use Rattle.units.specs.declared.Fen.{Fen}
+use lib.Dec.{eqb, ltb}
 use Rattle.units.specs.Laws.Bounds.{mostFull}
 use Rattle.units.specs.Payments.{fen, deposit, penalty}
-use Rattle.units.specs.Ranges.{within, accountCount, receiptCount}
+use Rattle.units.specs.Ranges.{within, accountCount}
 use Rattle.zone.specs.declared.Account.{Account}
 use Rattle.zone.specs.declared.Hold.{Hold}
 use Rattle.zone.specs.declared.Receipt.{Receipt}
@@ -21,17 +19,11 @@ use Rattle.zone.specs.Laws.Facts.{bounds}
 use Rattle.zone.specs.Laws.Held.{full-le, fenFrom-le}
 use Rattle.zone.specs.Laws.Tests.{both}
 use Rattle.zone.specs.Record.{recordOf}
-use Rattle.zone.specs.Valid.{all, recordValid, noReceipt, emptyAccount}
-use Rattle.image.specs.Image.{validImage, decode}
-use Rattle.image.specs.Laws.RoundTrip.{record-ok, records-same, account-in-place}
-use Rattle.image.specs.Laws.Table.{length-table, getD-table}
-use Rattle.image.specs.Layout.{dayIn, afternoonIn, accountRun, accountIn, receiptRun, recordIn, recordsIn, receiptsIn}
-use Rattle.rules.specs.Tables.{nth}
-use Rattle.rules.specs.View.{freeOf}
-use Rattle.verdict.specs.Laws.Sums.{sumAt, asked, sum-is, sum-le, sums-more}
-use Rattle.verdict.specs.Sums.{noHold, addTo, sumsBy}
-use Rattle.shortfalls.specs.Shortfalls.{passesBy, isDue, owesPenalty, buysDue, penaltiesDue, paymentsDue, shortfall}
-use Rattle.shortfalls.specs.Walk.{askedOf, validAsked, askedSums}
+use Rattle.zone.specs.Valid.{all, recordValid}
+use Rattle.verdict.specs.Laws.Sums.{asked}
+use Rattle.verdict.specs.Sums.{noHold}
+use Rattle.shortfalls.specs.Shortfalls.{passesBy, isDue, owesPenalty, buysDue, penaltiesDue, paymentsDue}
+use Rattle.shortfalls.specs.Walk.{askedOf, validAsked}
 
 -- ── One lot ────────────────────────────────────────────────────────────────────────────────────
 

@@ -8,20 +8,19 @@ use native.Mathlib.Omega.{arith}
 use lib.ListN.{length, take, getD, drop, replicate, length-map, take-append-drop}
 use lib.Seq.{sets}
 use Rattle.units.specs.Laws.Bounds.{mostFull}
-use Rattle.units.specs.Ranges.{accountCount, receiptCount}
+use Rattle.units.specs.Ranges.{accountCount}
 use Rattle.wire.specs.LittleEndian.{leAt, leBytes}
 use Rattle.wire.specs.Laws.Bytes.{length-leBytes, leAt-leBytes}
 use Rattle.wire.specs.Laws.Runs.{run-there, behind-run}
-use Rattle.zone.specs.declared.Account.{Account}
 use Rattle.zone.specs.declared.Receipt.{Receipt}
 use Rattle.zone.specs.declared.Record.{Record}
 use Rattle.zone.specs.declared.Zone.{Zone}
 use Rattle.zone.specs.Record.{recordOf}
-use Rattle.zone.specs.Valid.{all, recordValid, emptyAccount}
+use Rattle.zone.specs.Valid.{all, recordValid}
 use Rattle.zone.specs.Laws.Valid.{zone-in}
 use Rattle.image.specs.Image.{validImage, decode}
-use Rattle.image.specs.Laws.RoundTrip.{valid-decode, decode-sized, records-same, account-in-place}
-use Rattle.image.specs.Laws.Table.{length-table, getD-table, table-cong, length-tableBytes, record-back, leAt-part}
+use Rattle.image.specs.Laws.RoundTrip.{valid-decode, records-same, account-in-place}
+use Rattle.image.specs.Laws.Table.{length-table, getD-table, length-tableBytes, record-back, leAt-part}
 use Rattle.image.specs.Layout.{dayIn, afternoonIn, accountRun, accountIn, receiptsIn}
 use Rattle.image.specs.Table.{table, tableBytes}
 use Rattle.rules.specs.Laws.Good.{Good}

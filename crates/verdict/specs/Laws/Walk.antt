@@ -22,7 +22,7 @@ use Rattle.image.specs.Layout.{receiptRun, recordIn, recordsIn}
 use Rattle.image.specs.Laws.Table.{length-table, getD-table, is-table, table-cong, set-table, map-table}
 use Rattle.verdict.specs.Sums.{validHold, addTo, noSums, sumsBy, validRecords}
 use Rattle.verdict.specs.Walk.{BlankFrom, marksFrom, marked}
-use Rattle.verdict.specs.Laws.Sums.{sumAt, sum-le, sums-more, hold-known, hold-small, blank-valid, blank-hold}
+use Rattle.verdict.specs.Laws.Sums.{sumAt, sum-le, sums-more, blank-valid, blank-hold}
 
 -- ── The sums ───────────────────────────────────────────────────────────────────────────────────
 
