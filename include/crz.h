@@ -5,8 +5,8 @@
  * for the time of the call: a pointer and a length. No two buffers of one call may share a byte. A buffer of length 0
  * may come with any pointer, NULL too. The library keeps no state of its own and allocates nothing: calls on different
  * images may run at the same time on different threads, calls on one image one at a time, and nobody reads an image
- * while a call is made on it. On x86-64 each entry takes less than 16 KB of the caller's stack, whatever the kind and
- * the image.
+ * while a call is made on it. crz_shortfalls only reads its image: several threads may ask at once. On x86-64 each entry
+ * takes less than 16 KB of the caller's stack, whatever the kind and the image.
  *
  * Numbers in the image, the calls and the answers are little-endian; i32 is two's complement. Accounts, receipts and
  * contracts count from 1, and a lot has the number of its receipt. crz_records.h reads and writes the records.

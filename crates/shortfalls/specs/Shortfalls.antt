@@ -15,7 +15,7 @@ use Rattle.zone.specs.Record.{recordOf}
 use Rattle.image.specs.Table.{table, tableBytes}
 use Rattle.rules.specs.View.{freeOf}
 
--- the amount by which n passes m; where it does not, nothing, and never less
+-- the amount by which n passes m; where it does not, nothing, and never less. The test keeps the difference from stopping at 0.
 unfoldable pub passesBy : ℕ → ℕ → ℕ
 passesBy n m = cond (ltb m n) (n - m) 0
 
