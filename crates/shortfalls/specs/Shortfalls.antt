@@ -40,8 +40,7 @@ unfoldable pub penaltiesDue : ℕ → ℕ → List Receipt → ℕ
 penaltiesDue day x [] = 0
 penaltiesDue day x (r ∷ rs) = cond (owesPenalty day x (recordOf r)) (penalty .0) 0 + penaltiesDue day x rs
 
--- Over the trades of x as buyer that are due, the amount by which full passes the deposit. A trade that costs less asks for nothing and
--- helps no other.
+-- Of each due trade that x buys, what full has above the deposit. A trade that costs less asks for nothing and helps no other.
 unfoldable pub paymentsDue : ℕ → ℕ → List Receipt → ℕ
 paymentsDue day x [] = 0
 paymentsDue day x (r ∷ rs) = cond (buysDue day x (recordOf r)) (passesBy (full (recordOf r) .0) (deposit .0)) 0 + paymentsDue day x rs
