@@ -486,7 +486,7 @@ static void try_all_lots(uint32_t state, uint64_t total)
     try_known(of_seller, 0, of_buyer);
     edges[MOST_PAYMENTS] += crz_get_figure(figures.bytes, BUYER) == UINT64_C(195200000000);
     edges[MOST_PENALTIES] += crz_get_figure(figures.bytes, SELLER) == UINT64_C(640000000);
-    edges[FULL_TREASURY] += crz_get_total(paid) == CRZ_TOTAL_MOST;
+    edges[TOTAL_AT_LIMIT] += crz_get_total(paid) == CRZ_TOTAL_MOST;
 }
 
 static void try_largest(uint32_t state)
