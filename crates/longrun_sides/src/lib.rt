@@ -1,9 +1,10 @@
-// The library and the second ledger side by side: one call, one table of calls or one fresh image on both, and the
-// comparison.
+// The library and the second ledger side by side: one call, one table of calls, the figures of shortfalls or one fresh image on both,
+// and the comparison.
 mod buffers;
 mod call_tables;
 mod compare;
 mod fresh_entry;
+mod shortfalls;
 
 pub use buffers::filled;
 pub use buffers::filled_answers;
@@ -11,3 +12,4 @@ pub use call_tables::drive_table;
 pub use compare::drive;
 pub use compare::record_of;
 pub use fresh_entry::agree_on_fresh;
+pub use shortfalls::drive_shortfalls;

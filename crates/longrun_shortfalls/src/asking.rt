@@ -1,0 +1,71 @@
+// Both sides asked for the figures of an image: with room for them, and then in a buffer of some other length.
+use crate::counts::count_accounts;
+use crate::counts::count_asking;
+use crate::counts::count_lots;
+use crate::draws::make_up;
+use crate::draws::some_image_length;
+use crate::draws::some_room;
+use crate::owing::Owing;
+use crate::owing::nothing_owing;
+use crate::pay_ins::pay_some;
+use ledger_book::FIGURES_LENGTH;
+use ledger_book::Page;
+use longrun_calls::Plan;
+use longrun_counts::Tally;
+use longrun_counts::Verdict;
+use longrun_counts::show;
+use longrun_draws::percent;
+use longrun_sides::drive_shortfalls;
+use longrun_sides::filled;
+
+fn show_asking(room: u64, v: Verdict, tally: &mut Tally) {
+    show(
+        b"difference at shortfalls after call ",
+        b"  bytes for figures ",
+        room,
+        v,
+        tally,
+    );
+}
+
+// Figures that were told: they must be the run's own, and one is paid in.
+fn try_figures(seed: &mut u64, image: &Page, figures: &Page, told: Verdict, tally: &mut Tally) {
+    let mut owing: Owing = nothing_owing();
+    let mut v = told;
+    count_lots(image, &mut owing, tally);
+    v.agree = count_accounts(image, &owing, figures, tally);
+    show_asking(FIGURES_LENGTH as u64, v, tally);
+    pay_some(seed, image, &owing, figures, tally);
+}
+
+fn ask_again(seed: &mut u64, image: &Page, image_length: u64, bad: bool, tally: &mut Tally) {
+    let room = some_room(seed);
+    let mut figures: Page = filled();
+    let v = drive_shortfalls(image, image_length, &mut figures, room);
+    count_asking(image, image_length, room, bad, v.of_library, tally);
+    show_asking(room, v, tally);
+}
+
+fn ask(seed: &mut u64, plan: Plan, image: &Page, tally: &mut Tally) {
+    let mut copy: Page = *image;
+    make_up(seed, plan, &mut copy);
+    let image_length = some_image_length(seed);
+    let room = FIGURES_LENGTH as u64;
+    let mut figures: Page = filled();
+    let v = drive_shortfalls(&copy, image_length, &mut figures, room);
+    let bad = v.of_library != 0;
+    count_asking(&copy, image_length, room, bad, v.of_library, tally);
+    show_asking(room, v, tally);
+    if !bad {
+        try_figures(seed, &copy, &figures, v, tally);
+    }
+    ask_again(seed, &copy, image_length, bad, tally);
+}
+
+// Draws from a copy of the run's seed, so that the run makes the same calls as without it.
+pub fn ask_now_and_then(seed: &u64, plan: Plan, image: &Page, tally: &mut Tally) {
+    let mut own: u64 = *seed;
+    if percent(&mut own, 6) {
+        ask(&mut own, plan, image, tally);
+    }
+}
