@@ -8,9 +8,10 @@
 // shortfalls and the four entries.
 mod answers;
 mod call_tables;
-mod shortfalls;
+mod figures;
 
 pub use call_tables::table;
+pub use figures::shortfalls;
 use ledger_book::ANSWER_LENGTH;
 use ledger_book::Book;
 use ledger_book::CALL_LENGTH;
@@ -23,7 +24,6 @@ use ledger_book::set_cell;
 use ledger_image::is_valid;
 use ledger_image::read_image;
 use ledger_image::write_image;
-pub use shortfalls::shortfalls;
 
 // A call on an image: its number, with image and answer written (01 Calls, Answers).
 pub fn call(image: &mut [u8], record: &[u8], answer: &mut [u8]) -> u64 {
