@@ -4,8 +4,7 @@
 // It is built another way on purpose. The zone is a book of columns of numbers. Of an account it keeps one number, its wealth: free and
 // frozen money together. What is frozen is never moved: it is counted anew from the lots wherever it is asked for. A call's entries
 // stand in columns beside the lots that they are about. The book is in `ledger_book`, the image in `ledger_image`, the tests of a call
-// in `ledger_numbers`, what a call does in `ledger_kinds`; here are the answer, the figures of
-// shortfalls and the four entries.
+// in `ledger_numbers`, what a call does in `ledger_kinds`; here are the answer, the shortfalls and the four entries.
 mod answers;
 mod call_tables;
 mod figures;

@@ -74,7 +74,7 @@ fn next_call(seed: &mut u64, plan: Plan, image: &mut Page, second: &mut Page, ta
 fn make_calls(seed: &mut u64, plan: Plan, image: &mut Page, second: &mut Page, tally: &mut Tally) {
     let calls = plan.calls;
     for k in 0..calls {
-        ask_now_and_then(seed, plan, image, tally);
+        ask_now_and_then(*seed, plan, image, tally);
         next_call(seed, plan, image, second, tally);
     }
 }

@@ -63,8 +63,8 @@ fn ask(seed: &mut u64, plan: Plan, image: &Page, tally: &mut Tally) {
 }
 
 // Draws from a copy of the run's seed, so that the run makes the same calls as without it.
-pub fn ask_now_and_then(seed: &u64, plan: Plan, image: &Page, tally: &mut Tally) {
-    let mut own: u64 = *seed;
+pub fn ask_now_and_then(seed: u64, plan: Plan, image: &Page, tally: &mut Tally) {
+    let mut own = seed;
     if percent(&mut own, 6) {
         ask(&mut own, plan, image, tally);
     }
