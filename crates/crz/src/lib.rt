@@ -9,6 +9,7 @@ ghost use Rattle.rules.specs.Effects.{effect};
 ghost use Rattle.rules.specs.Steps.{stepOn};
 ghost use Rattle.answers.specs.Buffers.{mostCalls, answerLength, acceptedAnswer};
 ghost use Rattle.crz.specs.CallTable.{inTurn, tableFits, tableEntry};
+ghost use Rattle.crz.specs.Figures.{shortfallsEntry};
 ghost use Rattle.crz.specs.Fresh.{freshEntry};
 ghost use Rattle.crz.specs.Returned.{callWith, callEntry};
 use answers::ANSWER_LENGTH;
@@ -22,6 +23,7 @@ use rules::NUMBER_BAD_IMAGE;
 use rules::NUMBER_BAD_TABLE;
 use rules::NUMBER_SHORT_ANSWER;
 use rules::Step;
+use shortfalls::FIGURES_LENGTH;
 
 // ── A call ──────────────────────────────────────────────────────────────────────────────────────
 
@@ -113,6 +115,24 @@ pub extern "C" fn crz_table(image: &mut [u8], calls: &[u8], answers: &mut [u8]) 
     let valid = verdict::image_ok(image);
     let count = calls.len() / CALL_LENGTH;
     make_first(image, valid, answers::read_calls(calls), count, answers);
+    NUMBER_ACCEPTED as u32
+}
+
+// ── Shortfalls ──────────────────────────────────────────────────────────────────────────────────
+
+// Writes what each account has to pay in before the morning close and returns 0; or 1 where the figures are too short, then 2 where the
+// image is not valid, and writes nothing.
+#[no_mangle]
+pub extern "C" fn crz_shortfalls(image: &[u8], figures: &mut [u8]) -> u32
+    ensures { λ r. ⌜ (r, now (image .exit), now (figures .exit)) ≡ shortfallsEntry (now (image .entry)) (now (figures .entry)) ⌝ }
+{
+    if figures.len() < FIGURES_LENGTH {
+        return NUMBER_SHORT_ANSWER as u32;
+    }
+    if !verdict::image_ok(image) {
+        return NUMBER_BAD_IMAGE as u32;
+    }
+    shortfalls::put_figures(image, figures);
     NUMBER_ACCEPTED as u32
 }
 

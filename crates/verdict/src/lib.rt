@@ -152,7 +152,7 @@ fn registered_ok(image: &[u8], k: usize) -> bool
 
 // ── What the lots hold ──────────────────────────────────────────────────────────────────────────
 
-fn no_hold() -> Hold
+pub fn no_hold() -> Hold
     ensures { λ r. ⌜ r ≡ noHold ⌝ }
 {
     Hold {
@@ -181,7 +181,7 @@ fn hold_at(image: &[u8], k: usize, valid: &mut [bool]) -> Hold
     validity::hold_of(image::record_at(image, k))
 }
 
-fn plus(sum: Fen, more: Fen) -> Fen
+pub fn plus(sum: Fen, more: Fen) -> Fen
     requires { ⌜ sum .0 + more .0 < 2 ^ 64 ⌝ }
     ensures { λ r. ⌜ r ≡ fen (sum .0 + more .0) ⌝ }
 {

@@ -231,7 +231,7 @@ module _ (s : List ℕ) (ok : validImage s ≡ true) where
   pub valid-long : length s ≡ imageLength
   valid-long = image-in s ok .long
 
-  record-ok : (k : ℕ) → k < receiptCount → recordValid (recordIn (receiptRun s k)) ≡ true
+  pub record-ok : (k : ℕ) → k < receiptCount → recordValid (recordIn (receiptRun s k)) ≡ true
   unfolding recordsIn
   record-ok k h =
       let f : ℕ → Record = λ i. recordIn (receiptRun s i) in
@@ -240,7 +240,7 @@ module _ (s : List ℕ) (ok : validImage s ≡ true) where
       rw (getD-table receiptCount f k (recordOf noReceipt) h) at e
 
   -- the records of its receipts are those in the bytes
-  records-same : map recordOf (receiptsIn s) ≡ recordsIn s
+  pub records-same : map recordOf (receiptsIn s) ≡ recordsIn s
   unfolding receiptsIn recordsIn
   records-same =
       map-table recordOf receiptCount (λ (k : ℕ). receiptOf (recordIn (receiptRun s k)))

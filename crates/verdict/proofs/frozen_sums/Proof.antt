@@ -73,7 +73,7 @@ array-copy-out-plus c = omega (arith, from-known (c .before .before .before .bef
 
 plus-requires : tie.Need-plus-requires Inv-loop μ-loop
 plus-requires c κs =
-    sum-room (now (c .before .before .before .before .before .before .before .before .before .before .before .before .args .image)) (c .before .before .before .before .before .before .before .before .loop .i) _ (c .before .before .before .before .before .before .before .before .loop .inv .1) _ (omega (arith, from-known (c .before .before .before .before .before))) _ (fen-small (c .before .before .before .before .before))
+    sum-room (now (c .before .before .before .before .before .before .before .before .before .before .before .before .args .image)) validHold hold-known hold-small (c .before .before .before .before .before .before .before .before .loop .i) _ (c .before .before .before .before .before .before .before .before .loop .inv .1) _ (omega (arith, from-known (c .before .before .before .before .before))) _ (fen-small (c .before .before .before .before .before))
 
 mul-sums : tie.Need-mul-sums Inv-loop μ-loop
 mul-sums c = search needs
@@ -93,7 +93,7 @@ loop-again c =
       ap (set (l .sums) (h .from - 1)) (c .plus .ensures)
           ∙ ap (λ (m : List Fen). set m (h .from - 1) (fen (sumAt m (h .from - 1) + h .fen .0))) (l .inv .1)
           ∙ sym (add-some (h .from) (h .fen .0) (sumsBy validHold (lastRecords s (l .i))) (c .before .before .if1 .taken))
-          ∙ sums-turn s (l .i) (omega arith) (omega arith) h (c .before .before .before .before .before .before .hold-at .ensures .0),
+          ∙ sums-turn s validHold (l .i) (omega arith) (omega arith) h (c .before .before .before .before .before .before .hold-at .ensures .0),
       c .before .before .before .before .before .before .hold-at .ensures .1 ∙ marked-next (c .before .before .before .before .before .before),
     )
 
@@ -107,7 +107,7 @@ loop-again-2 c =
     let h = c .before .before .before .before .hold-at .result in (
       omega arith,
       l .inv .1 ∙ sym (add-none (h .from) (h .fen .0) (sumsBy validHold (lastRecords s (l .i))) (c .if1 .left))
-          ∙ sums-turn s (l .i) (omega arith) (omega arith) h (c .before .before .before .before .hold-at .ensures .0),
+          ∙ sums-turn s validHold (l .i) (omega arith) (omega arith) h (c .before .before .before .before .hold-at .ensures .0),
       c .before .before .before .before .hold-at .ensures .1 ∙ marked-next (c .before .before .before .before),
     )
 

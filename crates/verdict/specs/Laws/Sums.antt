@@ -69,13 +69,13 @@ module _ (holds : Record → Hold) where
   sums-length (r ∷ rs) = length-add (holds r .from) (holds r .fen .0) (sumsBy holds rs) ∙ sums-length rs
 
   -- the amounts of one account x, asked of record after record
-  unfoldable asked : ℕ → List Record → ℕ
+  unfoldable pub asked : ℕ → List Record → ℕ
   asked x [] = 0
   asked x (r ∷ rs) = fenFrom x (holds r .from) (holds r .fen .0) + asked x rs
 
   module _ (known : (r : Record) → holds r .from ≤ accountCount) where
     -- the walk and the question about one account agree
-    sum-is : (rs : List Record) (p : ℕ) → p < accountCount → sumAt (sumsBy holds rs) p ≡ asked (suc p) rs
+    pub sum-is : (rs : List Record) (p : ℕ) → p < accountCount → sumAt (sumsBy holds rs) p ≡ asked (suc p) rs
     unfolding sumsBy asked
     sum-is [] p h = ap (λ (f : Fen). f .0) (getD-replicate accountCount p (fen 0) (fen 0) h)
     sum-is (r ∷ rs) p h =

@@ -10,7 +10,7 @@ use native.Mathlib.Omega.{arith}
 use borrow.Author.Tests.{lt-ltb, le-ltb, ltb-true, ltb-false}
 use lib.Dec.{ltb}
 use lib.ListN.{length, getD, drop, replicate, length-drop, length-replicate, getD-replicate}
-use lib.Seq.{getD-drop}
+use lib.Seq.{getD-drop, drop-length}
 use Rattle.units.specs.declared.Fen.{Fen}
 use Rattle.units.specs.Laws.Bounds.{mostFull}
 use Rattle.units.specs.Ranges.{accountCount, receiptCount}
@@ -73,23 +73,31 @@ module _ (s : List ℕ) where
           let inside : n + k < receiptCount = omega (arith, length-drop n (recordsIn s), count) in
           ap blank (getD-drop n (recordsIn s) k none ∙ record-is (n + k) inside) ∙ b .at (n + k) (omega arith) inside
 
-  -- a turn at record i - 1
-  pub sums-turn : (i : ℕ) → 0 < i → i ≤ receiptCount → (h : Hold) → h ≡ validHold (rec (i - 1)) →
-      addTo (h .from) (h .fen .0) (sumsBy validHold (lastRecords i)) ≡ sumsBy validHold (lastRecords (i - 1))
-  sums-turn i p q h e =
+  -- behind the last record there is nothing to add up
+  pub sums-none : (holds : Record → Hold) → noSums ≡ sumsBy holds (lastRecords receiptCount)
+  unfolding sumsBy
+  sums-none holds =
+      let past : lastRecords receiptCount ≡ [] = ap (λ (n : ℕ). drop n (recordsIn s)) (sym count) ∙ drop-length (recordsIn s) in
+      sym (ap (sumsBy holds) past)
+
+  -- a turn at record i - 1, whatever a record holds
+  pub sums-turn : (holds : Record → Hold) (i : ℕ) → 0 < i → i ≤ receiptCount → (h : Hold) → h ≡ holds (rec (i - 1)) →
+      addTo (h .from) (h .fen .0) (sumsBy holds (lastRecords i)) ≡ sumsBy holds (lastRecords (i - 1))
+  sums-turn holds i p q h e =
       let k = i - 1 in
       let next : suc k ≡ i = omega arith in
       let inside : k < receiptCount = omega arith in
-      let had : validHold (getD (recordsIn s) k none) ≡ h = ap validHold (record-is k inside) ∙ sym e in
-      sym (sums-more validHold (recordsIn s) k none (rw count inside)
-      ∙ ap (λ (g : Hold). addTo (g .from) (g .fen .0) (sumsBy validHold (lastRecords (suc k)))) had
-      ∙ ap (λ (j : ℕ). addTo (h .from) (h .fen .0) (sumsBy validHold (lastRecords j))) next)
+      let had : holds (getD (recordsIn s) k none) ≡ h = ap holds (record-is k inside) ∙ sym e in
+      sym (sums-more holds (recordsIn s) k none (rw count inside)
+      ∙ ap (λ (g : Hold). addTo (g .from) (g .fen .0) (sumsBy holds (lastRecords (suc k)))) had
+      ∙ ap (λ (j : ℕ). addTo (h .from) (h .fen .0) (sumsBy holds (lastRecords j))) next)
 
-  -- a sum on the way, and what one lot holds, fit 64 bits together
-  pub sum-room : (i : ℕ) (sums : List Fen) → sums ≡ sumsBy validHold (lastRecords i) → (p : ℕ) → p < accountCount → (n : ℕ) → n ≤ mostFull →
+  -- a sum on the way, and what one lot adds to it, fit 64 bits together
+  pub sum-room : (holds : Record → Hold) → ((r : Record) → holds r .from ≤ accountCount) → ((r : Record) → holds r .fen .0 ≤ mostFull)
+      → (i : ℕ) (sums : List Fen) → sums ≡ sumsBy holds (lastRecords i) → (p : ℕ) → p < accountCount → (n : ℕ) → n ≤ mostFull →
       sumAt sums p + n < 2 ^ 64
-  sum-room i sums e p h n q =
-      let m : sumAt sums p ≤ mostFull * length (lastRecords i) = rw e (sum-le validHold hold-known mostFull hold-small (lastRecords i) p h) in
+  sum-room holds known small i sums e p h n q =
+      let m : sumAt sums p ≤ mostFull * length (lastRecords i) = rw e (sum-le holds known mostFull small (lastRecords i) p h) in
       omega (arith, m, length-drop i (recordsIn s), count)
 
   -- ── The marks ──

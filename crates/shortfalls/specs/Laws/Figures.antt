@@ -1,0 +1,74 @@
+-- The figures of an image, by what the walk has added up, and as they stand in bytes.
+-- Assumes nothing.
+use mathlib.Core.Bool.{Bool, true, false, cond}
+use mathlib.Core.List.{List, _++_, map}
+use mathlib.Core.Path.{_≡_, refl, sym, ap, _∙_}
+use Prim.Native.Nat.{ℕ, suc, _+_, _*_, _^_, _≤_, _<_}
+use native.Mathlib.Omega.{arith}
+use lib.ListN.{length, take, getD, drop, replicate, take-append-drop}
+use lib.Seq.{sets}
+use Rattle.units.specs.Laws.Bounds.{mostFull}
+use Rattle.units.specs.Ranges.{accountCount, receiptCount}
+use Rattle.wire.specs.LittleEndian.{leAt, leBytes}
+use Rattle.wire.specs.Laws.Bytes.{length-leBytes, leAt-leBytes}
+use Rattle.wire.specs.Laws.Runs.{run-there, behind-run}
+use Rattle.zone.specs.declared.Account.{Account}
+use Rattle.zone.specs.declared.Record.{Record}
+use Rattle.zone.specs.declared.Zone.{Zone}
+use Rattle.zone.specs.Record.{recordOf}
+use Rattle.zone.specs.Valid.{Sized, validZone, emptyAccount}
+use Rattle.zone.specs.Laws.Valid.{zone-in}
+use Rattle.image.specs.Image.{validImage, decode}
+use Rattle.image.specs.Laws.RoundTrip.{valid-decode, decode-sized, records-same, account-in-place}
+use Rattle.image.specs.Laws.Table.{length-table, getD-table, table-cong, length-tableBytes, record-back, leAt-part}
+use Rattle.image.specs.Layout.{dayIn, afternoonIn, accountRun, accountIn, receiptsIn}
+use Rattle.image.specs.Table.{table, tableBytes}
+use Rattle.rules.specs.Tables.{nth}
+use Rattle.rules.specs.View.{freeOf}
+use Rattle.verdict.specs.Laws.Sums.{sumAt, sum-is}
+use Rattle.verdict.specs.Sums.{sumsBy}
+use Rattle.shortfalls.specs.Shortfalls.{passesBy, penaltiesDue, paymentsDue, shortfall, figureLength, figuresLength, figuresOf, figureBytes}
+use Rattle.shortfalls.specs.Walk.{validAsked, askedSums}
+use Rattle.shortfalls.specs.Laws.Asked.{passes-le, asked-known, asked-due}
+
+-- ── By the walk's sums ─────────────────────────────────────────────────────────────────────────
+
+module _ (s : List ℕ) (ok : validImage s ≡ true) where
+  -- what is asked of account suc p is its sum
+  sum-asked : (p : ℕ) → p < accountCount →
+      sumAt (askedSums (dayIn s) s) p ≡ penaltiesDue (dayIn s) (suc p) (receiptsIn s) + paymentsDue (dayIn s) (suc p) (receiptsIn s)
+  unfolding decode
+  sum-asked p h =
+      let day = dayIn s in
+      ap (λ (l : List Record). sumAt (sumsBy (validAsked day) l) p) (sym (records-same s ok))
+      ∙ sum-is (validAsked day) (asked-known day) (map recordOf (receiptsIn s)) p h
+      ∙ asked-due day (suc p) (receiptsIn s) (zone-in (decode s) (valid-decode s ok) .records)
+
+  -- in a morning its figure is what passes its free money
+  pub morning-figure : afternoonIn s ≡ false → (p : ℕ) → p < accountCount →
+      shortfall (decode s) (suc p) ≡ passesBy (sumAt (askedSums (dayIn s) s) p) (accountIn (accountRun s p) .free .0)
+  unfolding shortfall freeOf nth decode
+  morning-figure m p h = rw (m, sum-asked p h, account-in-place s p h)
+
+-- ── In bytes ───────────────────────────────────────────────────────────────────────────────────
+
+-- no lots are due in an afternoon
+pub no-figures : (z : Zone) → z .afternoon ≡ true → figureBytes z ≡ replicate figuresLength 0
+unfolding figureBytes shortfall table tableBytes leBytes
+no-figures z e = rw e
+
+pub figure-wide : (n : ℕ) → length (leBytes figureLength n) ≡ figureLength
+figure-wide n = length-leBytes figureLength n
+
+pub length-figures : (z : Zone) → length (figureBytes z) ≡ figuresLength
+unfolding figureBytes
+length-figures z = length-tableBytes (leBytes figureLength) figureLength figure-wide (figuresOf z) ∙ ap (λ (n : ℕ). n * figureLength) (length-table accountCount _)
+
+-- put into a buffer that has room for them, they stand before what was behind them
+pub figures-put : (z : Zone) (old : List ℕ) → figuresLength ≤ length old → sets old 0 (figureBytes z) ≡ figureBytes z ++ drop figuresLength old
+figures-put z old h =
+    let b = figureBytes z in
+    let n : length b ≡ figuresLength = length-figures z in
+    let front : take figuresLength (sets old 0 b) ≡ b = ap (λ (m : ℕ). take m (sets old 0 b)) (sym n) ∙ run-there b old 0 (omega arith) in
+    let back : drop figuresLength (sets old 0 b) ≡ drop figuresLength old = behind-run b old 0 figuresLength (omega arith) in
+    sym (take-append-drop figuresLength (sets old 0 b)) ∙ rw (front, back)

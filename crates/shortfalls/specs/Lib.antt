@@ -1,0 +1,3 @@
+pub mod Shortfalls
+pub mod Walk
+pub mod Laws
