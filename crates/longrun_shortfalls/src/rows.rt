@@ -1,4 +1,5 @@
 // The rows about shortfalls, and what no asking reached.
+use ledger_book::minus;
 use ledger_book::plus;
 use longrun_counts::ASKED;
 use longrun_counts::ASKED_IMAGES;
@@ -37,7 +38,7 @@ const NOTHING_TAKEN: u64 = OWING + 2 * OWING_CLASSES;
 
 fn may_be(place: u64) -> bool {
     if place < FIGURES_ROOM {
-        return is_number(place - ASKED);
+        return is_number(minus(place, ASKED));
     }
     (place != NOTHING_TAKEN + 2) & (place != NOTHING_TAKEN + 4) & (place != NOTHING_TAKEN + 5)
 }
