@@ -15,7 +15,7 @@ use longrun_draws::Request;
 use longrun_draws::below;
 use longrun_one_by_one::make_some_table;
 use longrun_one_by_one::open;
-use longrun_shortfalls::ask_now_and_then;
+use longrun_pay_ins::ask_now_and_then;
 use longrun_sides::agree_on_fresh;
 use longrun_sides::drive;
 use longrun_sides::filled;

@@ -1,7 +1,7 @@
 use borrow.Author.Needs.{needs}
 use Rattle.ledger_book.specs.Loops.{left}
-use Rattle.longrun_shortfalls.proofs.pay_ins.some_short.Statement.{statement}
-use Rattle.longrun_shortfalls.proofs.pay_ins.some_short.Tie as tie
+use Rattle.longrun_pay_ins.proofs.closes.some_short.Statement.{statement}
+use Rattle.longrun_pay_ins.proofs.closes.some_short.Tie as tie
 
 abbrev Inv-loop : tie.InvT-loop
 Inv-loop seed figures first found₀ k₀ found k = Unit {0}

@@ -1,8 +1,5 @@
 // A figure paid in on a copy of the image, and the morning close behind it: its account has then defaulted as buyer nowhere. With a fen
 // less it has, where one trade is all that is due from it (02 6/12).
-use crate::owing::Owing;
-use crate::owing::class_of;
-use crate::owing::is_trade;
 use ledger_book::ACCOUNTS;
 use ledger_book::ANSWER_PHASE_END;
 use ledger_book::BUYER;
@@ -31,6 +28,9 @@ use longrun_counts::show;
 use longrun_draws::Request;
 use longrun_draws::below;
 use longrun_draws::request_of;
+use longrun_shortfalls::Owing;
+use longrun_shortfalls::class_of;
+use longrun_shortfalls::is_trade;
 use longrun_sides::drive;
 use longrun_sides::filled;
 

@@ -1,13 +1,8 @@
-// Both sides asked for the figures of an image: with room for them, and then in a buffer of some other length.
-use crate::counts::count_accounts;
-use crate::counts::count_asking;
-use crate::counts::count_lots;
-use crate::draws::make_up;
-use crate::draws::some_image_length;
-use crate::draws::some_room;
-use crate::owing::Owing;
-use crate::owing::nothing_owing;
-use crate::pay_ins::pay_some;
+// Both sides asked for the shortfalls of an image (02 6/12): with room for the figures, and then with any. A figure is paid in before a
+// close.
+mod closes;
+
+use closes::pay_some;
 use ledger_book::FIGURES_LENGTH;
 use ledger_book::Page;
 use longrun_calls::Plan;
@@ -15,6 +10,14 @@ use longrun_counts::Tally;
 use longrun_counts::Verdict;
 use longrun_counts::show;
 use longrun_draws::percent;
+use longrun_shortfalls::Owing;
+use longrun_shortfalls::count_accounts;
+use longrun_shortfalls::count_asking;
+use longrun_shortfalls::count_lots;
+use longrun_shortfalls::make_up;
+use longrun_shortfalls::nothing_owing;
+use longrun_shortfalls::some_image_length;
+use longrun_shortfalls::some_room;
 use longrun_sides::drive_shortfalls;
 use longrun_sides::filled;
 

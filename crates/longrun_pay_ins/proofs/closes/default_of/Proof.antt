@@ -1,7 +1,7 @@
 use borrow.Author.Needs.{needs}
 use Rattle.ledger_book.specs.Loops.{left}
-use Rattle.longrun_shortfalls.proofs.pay_ins.default_of.Statement.{statement}
-use Rattle.longrun_shortfalls.proofs.pay_ins.default_of.Tie as tie
+use Rattle.longrun_pay_ins.proofs.closes.default_of.Statement.{statement}
+use Rattle.longrun_pay_ins.proofs.closes.default_of.Tie as tie
 
 abbrev Inv-loop : tie.InvT-loop
 Inv-loop answer account entries found₀ k₀ found k = Unit {0}
