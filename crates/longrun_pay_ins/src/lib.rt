@@ -1,8 +1,7 @@
 // Both sides asked for the shortfalls of an image (02 6/12): with room for the figures, and then with any. A figure is paid in before a
 // close.
-mod closes;
+mod pay_ins;
 
-use closes::pay_some;
 use ledger_book::FIGURES_LENGTH;
 use ledger_book::Page;
 use longrun_calls::Plan;
@@ -20,6 +19,7 @@ use longrun_shortfalls::some_image_length;
 use longrun_shortfalls::some_room;
 use longrun_sides::drive_shortfalls;
 use longrun_sides::filled;
+use pay_ins::pay_some;
 
 fn show_asking(room: u64, v: Verdict, tally: &mut Tally) {
     show(

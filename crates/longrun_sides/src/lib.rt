@@ -3,13 +3,13 @@
 mod buffers;
 mod call_tables;
 mod compare;
+mod figures;
 mod fresh_entry;
-mod shortfalls;
 
 pub use buffers::filled;
 pub use buffers::filled_answers;
 pub use call_tables::drive_table;
 pub use compare::drive;
 pub use compare::record_of;
+pub use figures::drive_shortfalls;
 pub use fresh_entry::agree_on_fresh;
-pub use shortfalls::drive_shortfalls;

@@ -1,7 +1,7 @@
 use borrow.Author.Needs.{needs}
 use Rattle.longrun_sides.specs.Lent.{lent}
-use Rattle.longrun_sides.proofs.shortfalls.lend.Statement.{statement}
-use Rattle.longrun_sides.proofs.shortfalls.lend.Tie as tie
+use Rattle.longrun_sides.proofs.figures.lend.Statement.{statement}
+use Rattle.longrun_sides.proofs.figures.lend.Tie as tie
 
 at-most-requires : tie.Need-at-most-requires
 at-most-requires c κs = search needs

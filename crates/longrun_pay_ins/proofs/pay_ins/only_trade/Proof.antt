@@ -1,7 +1,7 @@
 use borrow.Author.Needs.{needs}
 use Rattle.ledger_book.specs.Loops.{left}
-use Rattle.longrun_pay_ins.proofs.closes.only_trade.Statement.{statement}
-use Rattle.longrun_pay_ins.proofs.closes.only_trade.Tie as tie
+use Rattle.longrun_pay_ins.proofs.pay_ins.only_trade.Statement.{statement}
+use Rattle.longrun_pay_ins.proofs.pay_ins.only_trade.Tie as tie
 
 abbrev Inv-loop : tie.InvT-loop
 Inv-loop image account parts₀ found₀ lot₀ parts found lot = Unit {0}
