@@ -1,4 +1,5 @@
 // What each account must pay in before the morning close (02 6/12), counted account by account over all lots.
+use crate::is_image;
 use ledger_book::ACCOUNTS;
 use ledger_book::BUYER;
 use ledger_book::Book;
@@ -88,7 +89,7 @@ pub fn shortfalls(image: &[u8], figures: &mut [u8]) -> u64 {
         return 1;
     }
     let mut book: Book = empty_book();
-    if !crate::is_image(&mut book, image) {
+    if !is_image(&mut book, image) {
         return 2;
     }
     write_figures(&book, figures);

@@ -203,6 +203,16 @@ pub const OWING_CLASSES: u64 = 6;
 // and those that need more than 32 bits.
 pub const SHORT: u64 = OWING + OWING_ROWS * OWING_CLASSES;
 
+pub const SHORT_ONE_FEN: u64 = SHORT;
+
+pub const SHORT_BELOW_DEPOSIT: u64 = SHORT + 1;
+
+pub const SHORT_FIRST: u64 = SHORT + 2;
+
+pub const SHORT_LAST: u64 = SHORT + 3;
+
+pub const SHORT_ABOVE_U32: u64 = SHORT + 4;
+
 pub const SHORT_CLASSES: u64 = 5;
 
 // Figures paid in before a close, by the account's due lots as above; and those paid in but for one fen, of a trade that was struck, lodged.

@@ -10,6 +10,7 @@ use longrun_counts::Verdict;
 use longrun_counts::show;
 use longrun_draws::percent;
 use longrun_shortfalls::Owing;
+use longrun_shortfalls::are_right;
 use longrun_shortfalls::count_accounts;
 use longrun_shortfalls::count_asking;
 use longrun_shortfalls::count_lots;
@@ -36,7 +37,8 @@ fn try_figures(seed: &mut u64, image: &Page, figures: &Page, told: Verdict, tall
     let mut owing: Owing = nothing_owing();
     let mut v = told;
     count_lots(image, &mut owing, tally);
-    v.agree = count_accounts(image, &owing, figures, tally);
+    count_accounts(image, &owing, tally);
+    v.agree = are_right(image, &owing, figures);
     show_asking(FIGURES_LENGTH as u64, v, tally);
     pay_some(seed, image, &owing, figures, tally);
 }

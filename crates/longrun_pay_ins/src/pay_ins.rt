@@ -1,11 +1,9 @@
 // A figure paid in on a copy of the image, and the morning close behind it: its account has then defaulted as buyer nowhere. With a fen
 // less it has, where one trade is all that is due from it (02 6/12).
 use ledger_book::ACCOUNTS;
-use ledger_book::ANSWER_PHASE_END;
 use ledger_book::BUYER;
 use ledger_book::DAY;
 use ledger_book::DUE;
-use ledger_book::ENTRY_COUNT_END;
 use ledger_book::FROM;
 use ledger_book::LOT;
 use ledger_book::OUTCOME;
@@ -17,13 +15,13 @@ use ledger_book::STATE;
 use ledger_book::ZONE;
 use ledger_book::minus;
 use ledger_book::page_cell;
-use ledger_book::page_field;
 use ledger_book::plus;
 use longrun_counts::PAID_FIGURES;
 use longrun_counts::PAID_LESS;
 use longrun_counts::Tally;
 use longrun_counts::Verdict;
 use longrun_counts::add;
+use longrun_counts::entries_in;
 use longrun_counts::show;
 use longrun_draws::Request;
 use longrun_draws::below;
@@ -70,7 +68,7 @@ fn is_default(answer: &Page, k: u64, account: u64) -> bool {
 
 // The last lot with which the account has defaulted as buyer, 0 where there is none.
 fn default_of(answer: &Page, account: u64) -> u64 {
-    let entries = page_field(answer, ANSWER_PHASE_END, ENTRY_COUNT_END);
+    let entries = entries_in(answer);
     let mut found: u64 = 0;
     for k in 1..RECEIPTS + 1 {
         if (k <= entries) & is_default(answer, k, account) {
@@ -80,7 +78,7 @@ fn default_of(answer: &Page, account: u64) -> u64 {
     found
 }
 
-// Shows a close after which the account has defaulted with another lot than it must.
+// Shows a close in which the account has defaulted where it must not, or has not where it must.
 fn judge(wanted: u64, found: u64, account: u64, tally: &mut Tally) {
     let v = Verdict {
         total: 0,
@@ -89,7 +87,7 @@ fn judge(wanted: u64, found: u64, account: u64, tally: &mut Tally) {
         agree: found == wanted,
     };
     show(
-        b"default (lots for numbers) with a figure paid in after call ",
+        b"wrong default (numbers: the lot found, the lot wanted) after call ",
         b"  account ",
         account,
         v,

@@ -7,17 +7,16 @@ use crate::owing::PENALTY;
 use crate::owing::STRUCK;
 use crate::owing::add_lot;
 use crate::owing::class_of;
+use crate::owing::figure_of;
 use crate::owing::owing_of;
 use ledger_book::ACCOUNTS;
 use ledger_book::DAY;
 use ledger_book::DUE;
 use ledger_book::FIGURES_LENGTH;
-use ledger_book::FREE;
 use ledger_book::IMAGE_LENGTH;
 use ledger_book::PHASE;
 use ledger_book::Page;
 use ledger_book::RECEIPTS;
-use ledger_book::SHORTFALL;
 use ledger_book::STATE;
 use ledger_book::ZONE;
 use ledger_book::minus;
@@ -31,9 +30,14 @@ use longrun_counts::COUNTS_OF_CLOSE;
 use longrun_counts::FIGURES_ROOM;
 use longrun_counts::OWING;
 use longrun_counts::OWING_CLASSES;
-use longrun_counts::SHORT;
+use longrun_counts::SHORT_ABOVE_U32;
+use longrun_counts::SHORT_BELOW_DEPOSIT;
+use longrun_counts::SHORT_FIRST;
+use longrun_counts::SHORT_LAST;
+use longrun_counts::SHORT_ONE_FEN;
 use longrun_counts::Tally;
 use longrun_counts::add;
+use longrun_counts::count_where;
 
 // ── Lengths and images ──────────────────────────────────────────────────────────────────────────
 
@@ -52,6 +56,7 @@ fn room_class(room: u64) -> u64 {
     5
 }
 
+// The classes of images and of bytes for figures are in the order of the tally.
 fn image_class(image: &Page, image_length: u64, bad: bool) -> u64 {
     if image_length != IMAGE_LENGTH as u64 {
         return 2;
@@ -134,16 +139,6 @@ pub fn count_lots(image: &Page, owing: &mut Owing, tally: &mut Tally) {
 
 // ── Accounts ────────────────────────────────────────────────────────────────────────────────────
 
-// The run's own figure: what is owing less the free money.
-pub fn figure_of(image: &Page, owing: &Owing, account: u64) -> u64 {
-    let fen = owing_of(owing, account, FEN);
-    let free = page_cell(image, FREE, account);
-    if fen > free {
-        return minus(fen, free);
-    }
-    0
-}
-
 fn owing_row(figure: u64, fen: u64) -> u64 {
     if figure != 0 {
         return 0;
@@ -154,20 +149,14 @@ fn owing_row(figure: u64, fen: u64) -> u64 {
     2
 }
 
-fn count_where(tally: &mut Tally, place: u64, is_so: bool) {
-    if is_so {
-        add(tally, place, 1);
-    }
-}
-
 fn count_figure(figure: u64, owing: &Owing, account: u64, tally: &mut Tally) {
     let below_deposit = owing_of(owing, account, BELOW_DEPOSIT) != 0;
     let is_short = figure != 0;
-    count_where(tally, SHORT, figure == 1);
-    count_where(tally, SHORT + 1, is_short & below_deposit);
-    count_where(tally, SHORT + 2, is_short & (account == 1));
-    count_where(tally, SHORT + 3, is_short & (account == ACCOUNTS));
-    count_where(tally, SHORT + 4, figure > 4294967295);
+    count_where(tally, SHORT_ONE_FEN, figure == 1);
+    count_where(tally, SHORT_BELOW_DEPOSIT, is_short & below_deposit);
+    count_where(tally, SHORT_FIRST, is_short & (account == 1));
+    count_where(tally, SHORT_LAST, is_short & (account == ACCOUNTS));
+    count_where(tally, SHORT_ABOVE_U32, figure > 4294967295);
 }
 
 fn count_account(image: &Page, owing: &Owing, account: u64, tally: &mut Tally) {
@@ -181,13 +170,8 @@ fn count_account(image: &Page, owing: &Owing, account: u64, tally: &mut Tally) {
     count_figure(figure, owing, account, tally);
 }
 
-// Counts the accounts of a valid image; whether the figures are the run's own.
-pub fn count_accounts(image: &Page, owing: &Owing, figures: &Page, tally: &mut Tally) -> bool {
-    let mut right = true;
+pub fn count_accounts(image: &Page, owing: &Owing, tally: &mut Tally) {
     for account in 1..ACCOUNTS + 1 {
-        let figure = page_cell(figures, SHORTFALL, account);
-        right = right & (figure == figure_of(image, owing, account));
         count_account(image, owing, account, tally);
     }
-    right
 }

@@ -11,6 +11,7 @@ pub use draws::make_up;
 pub use draws::some_image_length;
 pub use draws::some_room;
 pub use owing::Owing;
+pub use owing::are_right;
 pub use owing::class_of;
 pub use owing::is_trade;
 pub use owing::nothing_owing;

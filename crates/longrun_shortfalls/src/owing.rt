@@ -2,8 +2,10 @@
 use ledger_book::ACCOUNTS;
 use ledger_book::BUYER;
 use ledger_book::DEPOSIT;
+use ledger_book::FREE;
 use ledger_book::Page;
 use ledger_book::SELLER;
+use ledger_book::SHORTFALL;
 use ledger_book::STATE;
 use ledger_book::minus;
 use ledger_book::page_cell;
@@ -77,7 +79,38 @@ pub fn add_lot(owing: &mut Owing, image: &Page, lot: u64, what: u64) {
     }
 }
 
-// Which due lots an account has: one of each sort, several trades, several penalties, both; beyond the last class where it has none.
+// The run's own figure: what is owing less the free money.
+pub fn figure_of(image: &Page, owing: &Owing, account: u64) -> u64 {
+    let fen = owing_of(owing, account, FEN);
+    let free = page_cell(image, FREE, account);
+    if fen > free {
+        return minus(fen, free);
+    }
+    0
+}
+
+// Whether the figures are the run's own, whatever both sides agree on.
+pub fn are_right(image: &Page, owing: &Owing, figures: &Page) -> bool {
+    let mut right = true;
+    for account in 1..ACCOUNTS + 1 {
+        let figure = page_cell(figures, SHORTFALL, account);
+        right = right & (figure == figure_of(image, owing, account));
+    }
+    right
+}
+
+// ── Classes of accounts ─────────────────────────────────────────────────────────────────────────
+
+// By its due lots: the first three classes have one, which is struck, lodged or has a penalty.
+pub const ONE_PENALTY: u64 = 2;
+
+pub const SEVERAL_TRADES: u64 = 3;
+
+pub const SEVERAL_PENALTIES: u64 = 4;
+
+pub const TRADES_AND_PENALTIES: u64 = 5;
+
+// Beyond the last class where nothing is due.
 pub fn class_of(owing: &Owing, account: u64) -> u64 {
     let lodged = owing_of(owing, account, LODGED);
     let penalties = owing_of(owing, account, PENALTY);
@@ -87,13 +120,13 @@ pub fn class_of(owing: &Owing, account: u64) -> u64 {
         return OWING_CLASSES;
     }
     if lots == 1 {
-        return plus(lodged, product(2, penalties));
+        return plus(lodged, product(ONE_PENALTY, penalties));
     }
     if penalties == 0 {
-        return 3;
+        return SEVERAL_TRADES;
     }
     if trades == 0 {
-        return 4;
+        return SEVERAL_PENALTIES;
     }
-    5
+    TRADES_AND_PENALTIES
 }

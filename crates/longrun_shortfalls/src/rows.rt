@@ -1,4 +1,7 @@
 // The rows about shortfalls, and what no asking reached.
+use crate::owing::ONE_PENALTY;
+use crate::owing::SEVERAL_PENALTIES;
+use crate::owing::TRADES_AND_PENALTIES;
 use ledger_book::minus;
 use ledger_book::plus;
 use longrun_counts::ASKED;
@@ -22,7 +25,7 @@ use longrun_counts::Tally;
 use longrun_counts::counted;
 use longrun_counts::line;
 use longrun_tables::numbered_rows;
-use longrun_tables::row;
+use longrun_tables::unnamed_row;
 
 // ── What no asking reached ──────────────────────────────────────────────────────────────────────
 
@@ -40,7 +43,9 @@ fn may_be(place: u64) -> bool {
     if place < FIGURES_ROOM {
         return is_number(minus(place, ASKED));
     }
-    (place != NOTHING_TAKEN + 2) & (place != NOTHING_TAKEN + 4) & (place != NOTHING_TAKEN + 5)
+    (place != NOTHING_TAKEN + ONE_PENALTY)
+        & (place != NOTHING_TAKEN + SEVERAL_PENALTIES)
+        & (place != NOTHING_TAKEN + TRADES_AND_PENALTIES)
 }
 
 // Counts that are 0 and must not be, or the other way round.
@@ -57,11 +62,6 @@ fn missed_edges(tally: &Tally) -> u64 {
 
 // ── Rows ────────────────────────────────────────────────────────────────────────────────────────
 
-// A row that has no name begins with its first count.
-fn unnamed(tally: &Tally, place: u64, width: u64) {
-    row(tally, counted(tally, place), plus(place, 1), width);
-}
-
 fn print_asked(tally: &Tally) {
     io::write_all(
         1,
@@ -73,7 +73,7 @@ fn print_asked(tally: &Tally) {
         1,
         b"bytes for figures: none, two or more too few, one too few, exact, one to spare, more\n",
     );
-    unnamed(tally, FIGURES_ROOM, ROOM_CLASSES - 1);
+    unnamed_row(tally, FIGURES_ROOM, ROOM_CLASSES);
 }
 
 fn print_owing(tally: &Tally) {
@@ -92,14 +92,14 @@ fn print_owing(tally: &Tally) {
         1,
         b"figures above 0: of one fen, with a full payment below the deposit, of account 1, of account 96, of 33 bits or more\n",
     );
-    unnamed(tally, SHORT, SHORT_CLASSES - 1);
+    unnamed_row(tally, SHORT, SHORT_CLASSES);
 }
 
 fn print_paid(tally: &Tally) {
     io::write_all(1, b"figures paid in before a close, by what is due\n");
-    unnamed(tally, PAID_FIGURES, OWING_CLASSES - 1);
+    unnamed_row(tally, PAID_FIGURES, OWING_CLASSES);
     io::write_all(1, b"but for one fen: of a struck trade, of a lodged one\n");
-    unnamed(tally, PAID_LESS, PAID_LESS_STATES - 1);
+    unnamed_row(tally, PAID_LESS, PAID_LESS_STATES);
 }
 
 pub fn print_shortfalls(tally: &Tally) {

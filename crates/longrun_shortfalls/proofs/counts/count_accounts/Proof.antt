@@ -4,19 +4,13 @@ use Rattle.longrun_shortfalls.proofs.counts.count_accounts.Statement.{s
 use Rattle.longrun_shortfalls.proofs.counts.count_accounts.Tie as tie
 
 abbrev Inv-loop : tie.InvT-loop
-Inv-loop image owing figures tally₀ right₀ account₀ tally right account = Unit {0}
+Inv-loop image owing tally₀ account₀ tally account = Unit {0}
 
 abbrev μ-loop : tie.MeasureT-loop
-μ-loop image owing figures tally₀ right₀ account₀ tally right account = left account
+μ-loop image owing tally₀ account₀ tally account = left account
 
 loop-holds : tie.Need-loop-holds Inv-loop μ-loop
 loop-holds c = search needs
-
-page-cell-requires : tie.Need-page-cell-requires Inv-loop μ-loop
-page-cell-requires c κs = search needs
-
-figure-of-requires : tie.Need-figure-of-requires Inv-loop μ-loop
-figure-of-requires c κs = search needs
 
 count-account-requires : tie.Need-count-account-requires Inv-loop μ-loop
 count-account-requires c κs = search needs
@@ -40,8 +34,6 @@ count-accounts-spec =
     Inv-loop
     μ-loop
     loop-holds
-    page-cell-requires
-    figure-of-requires
     count-account-requires
     add-account
     loop-less
