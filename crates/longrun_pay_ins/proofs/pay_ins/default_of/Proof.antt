@@ -9,8 +9,8 @@ Inv-loop answer account entries found₀ k₀ found k = Unit {0}
 abbrev μ-loop : tie.MeasureT-loop
 μ-loop answer account entries found₀ k₀ found k = left k
 
-page-field-requires : tie.Need-page-field-requires Inv-loop μ-loop
-page-field-requires c κs = search needs
+entries-in-requires : tie.Need-entries-in-requires Inv-loop μ-loop
+entries-in-requires c κs = search needs
 
 loop-holds : tie.Need-loop-holds Inv-loop μ-loop
 loop-holds c = search needs
@@ -39,7 +39,7 @@ default-of-spec =
     (tie.spec
     Inv-loop
     μ-loop
-    page-field-requires
+    entries-in-requires
     loop-holds
     is-default-requires
     page-cell-requires
