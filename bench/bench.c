@@ -8,9 +8,9 @@
  * bench rows         the names of the rows
  * bench LEDGER ROW   one round of one row, to count its instructions: LEDGER is library, gcc or clang
  *
- * A row is a call, the image that it finds, what it returns and how it is made. A new one is a line of `rows`, and a
- * function that fills its image if none of the six here will do. An entry of another form is a field more of `ledgers`,
- * and is called in make_row.
+ * A row is a call, the image that it finds, what it returns and how it is made; shortfalls need no call. A new one is a
+ * line of `rows`, and a function that fills its image if none of the six here will do. An entry of another form is a
+ * field more of `ledgers`, and is called in make_row.
  */
 #define _POSIX_C_SOURCE 200809L
 
@@ -25,6 +25,8 @@
 typedef uint32_t ledger_entry(
     uint8_t *image, size_t image_len, const uint8_t *calls, size_t calls_len, uint8_t *answers, size_t answers_len);
 ledger_entry plain_gcc_call, plain_gcc_table, plain_clang_call, plain_clang_table;
+typedef uint32_t figures_entry(const uint8_t *image, size_t image_len, uint8_t *figures, size_t figures_len);
+figures_entry plain_gcc_shortfalls, plain_clang_shortfalls;
 
 enum { IMAGES = 16, ROUNDS = 1000, SWEEPS = 10, DAY = 5, PRICE = 15000, WEIGHT = 41237 };
 enum { CONFIRMED = 20000000, PENDING = 10000000 };
@@ -34,11 +36,12 @@ enum { LOT = 3, BIDDER = 90, TRADE = 7, PAYER = 55, LAST = CRZ_RECEIPT_COUNT };
 static const struct ledger {
     const char *name;
     ledger_entry *call, *table;
+    figures_entry *shortfalls;
 } ledgers[] = {
-    {"library", crz_call, crz_table},
-    {"gcc", plain_gcc_call, plain_gcc_table},
+    {"library", crz_call, crz_table, crz_shortfalls},
+    {"gcc", plain_gcc_call, plain_gcc_table, plain_gcc_shortfalls},
 #ifndef WITHOUT_CLANG
-    {"clang", plain_clang_call, plain_clang_table},
+    {"clang", plain_clang_call, plain_clang_table, plain_clang_shortfalls},
 #endif
 };
 
@@ -177,8 +180,8 @@ static void bid_for(uint8_t *image)
 
 /* ── Rows ──────────────────────────────────────────────────────────────────────────────────────── */
 
-/* one call; as many calls as a table can have, singly and in one table */
-enum way { ONE_CALL, SINGLY, IN_TABLE };
+/* one call; shortfalls; as many calls as a table can have, singly and in one table */
+enum way { ONE_CALL, FIGURES, SINGLY, IN_TABLE };
 
 struct row {
     const char *name;
@@ -191,7 +194,7 @@ struct row {
 };
 
 /* on the busy image LOT has a standing bid at PRICE, of contract 1; on the idle one it is listed. TRADE waits for PAYER
- * to confirm an invoice */
+ * to confirm an invoice. On the busy image 48 lots are due, which the morning close works and shortfalls ask for */
 static const struct row rows[] = {
     {"quote, busy", busy, CRZ_KIND_QUOTE, 0, 0, 1, PRICE, CRZ_NUMBER_ACCEPTED, ONE_CALL},
     {"quote, idle", idle, CRZ_KIND_QUOTE, 0, 0, 1, PRICE, CRZ_NUMBER_ACCEPTED, ONE_CALL},
@@ -209,6 +212,8 @@ static const struct row rows[] = {
     {"refusal, busy", busy, CRZ_KIND_LODGE, 1, 1, 0, 0, CRZ_NUMBER_WRONG_STATE, ONE_CALL},
     {"refusal, idle", idle, CRZ_KIND_LODGE, 1, 1, 0, 0, CRZ_NUMBER_WRONG_STATE, ONE_CALL},
     {"refusal, half", half, CRZ_KIND_LODGE, 1, 1, 0, 0, CRZ_NUMBER_WRONG_STATE, ONE_CALL},
+    {"shortfalls, busy", busy, CRZ_KIND_MORNING_CLOSE, 0, 0, 0, 0, CRZ_NUMBER_ACCEPTED, FIGURES},
+    {"shortfalls, idle", idle, CRZ_KIND_MORNING_CLOSE, 0, 0, 0, 0, CRZ_NUMBER_ACCEPTED, FIGURES},
     {"32 quotes singly, busy", busy, CRZ_KIND_QUOTE, 0, 0, 0, 0, CRZ_NUMBER_ACCEPTED, SINGLY},
     {"table of 32 quotes, busy", busy, CRZ_KIND_QUOTE, 0, 0, 0, 0, CRZ_NUMBER_ACCEPTED, IN_TABLE},
 };
@@ -237,6 +242,11 @@ static void put_quotes(void)
     }
 }
 
+static int is_of_quotes(const struct row *row)
+{
+    return row->way == SINGLY || row->way == IN_TABLE;
+}
+
 static void prepare(const struct row *row, uint8_t *image)
 {
     crz_fresh(image, CRZ_IMAGE_LENGTH);
@@ -246,7 +256,7 @@ static void prepare(const struct row *row, uint8_t *image)
     calls[CRZ_CALL_CONTRACT] = row->contract;
     if (row->kind == CRZ_KIND_REGISTER)
         crz_put_register(calls, row->account, row->receipt, WEIGHT, CRZ_PREMIUM_LEAST);
-    if (row->way != ONE_CALL)
+    if (is_of_quotes(row))
         put_quotes();
 }
 
@@ -273,6 +283,7 @@ static uint32_t make_singly(const struct ledger *ledger, uint8_t *image)
 static uint32_t make_row(const struct ledger *ledger, const struct row *row, uint8_t *image)
 {
     switch (row->way) {
+    case FIGURES: return ledger->shortfalls(image, CRZ_IMAGE_LENGTH, answers, CRZ_FIGURES_LENGTH);
     case SINGLY: return make_singly(ledger, image);
     case IN_TABLE: return ledger->table(image, CRZ_IMAGE_LENGTH, calls, sizeof calls, answers, sizeof answers);
     default: return ledger->call(image, CRZ_IMAGE_LENGTH, calls, CRZ_CALL_LENGTH, answers, CRZ_ANSWER_LENGTH);
@@ -316,7 +327,7 @@ static double least[ROWS][LEDGERS];
 static void measure(int row)
 {
     uint8_t image[CRZ_IMAGE_LENGTH];
-    int i, rounds = rows[row].way == ONE_CALL ? ROUNDS : ROUNDS / 8;
+    int i, rounds = is_of_quotes(&rows[row]) ? ROUNDS / 8 : ROUNDS;
     prepare(&rows[row], image);
     for (i = 0; i < rounds * LEDGERS; i++) {
         double took = one_round(&ledgers[i % LEDGERS], &rows[row], image), *best = &least[row][i % LEDGERS];

@@ -4,12 +4,13 @@ import ctypes
 import struct
 import sys
 
-IMAGE, CALL, ANSWER = 6208, 24, 1040
+IMAGE, CALL, ANSWER, ACCOUNTS = 6208, 24, 1040, 96
 library = ctypes.CDLL(sys.argv[1])
 library.crz_fresh.argtypes = [ctypes.c_char_p, ctypes.c_size_t]
 for entry in (library.crz_call, library.crz_table):
     entry.argtypes = [ctypes.c_char_p, ctypes.c_size_t] * 3
-for entry in (library.crz_fresh, library.crz_call, library.crz_table):
+library.crz_shortfalls.argtypes = [ctypes.c_char_p, ctypes.c_size_t] * 2
+for entry in (library.crz_fresh, library.crz_call, library.crz_table, library.crz_shortfalls):
     entry.restype = ctypes.c_uint32
 
 
@@ -40,6 +41,15 @@ def table(image, *records):
     return [fields(answers.raw[ANSWER * i:ANSWER * (i + 1)]) for i in range(len(records))]
 
 
+def shortfalls(image):
+    """Fen to pay in before the morning close, for each account that has to."""
+    figures = ctypes.create_string_buffer(8 * ACCOUNTS)
+    number = library.crz_shortfalls(image, IMAGE, figures, len(figures))
+    if number != 0:
+        raise ValueError("crz_shortfalls returned %d" % number)
+    return {i + 1: fen for i, fen in enumerate(struct.unpack("<%dQ" % ACCOUNTS, figures.raw)) if fen != 0}
+
+
 zone = ctypes.create_string_buffer(IMAGE)
 library.crz_fresh(zone, IMAGE)
 print(call(zone, 1, account=11, amount=100_000_000))                  # pay-in
@@ -50,3 +60,5 @@ print(call(zone, 6, account=11, receipt=1, amount=15_000))            # limit-bi
 print(table(zone,
             record(9, contract=1, amount=14_995),                     # quote: strikes lot 1 at 15,000
             record(8, account=11, receipt=1)))                        # withdraw-bid: too late
+print(call(zone, 2, account=11, amount=50_000_000))                   # take-out: 45,000,000 fen are left
+print(shortfalls(zone))                                               # lot 1 is due today and costs 63,092,610

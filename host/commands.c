@@ -9,6 +9,7 @@
 #include <unistd.h>
 
 #include "digits.h"
+#include "due.h"
 #include "file.h"
 #include "json.h"
 #include "print.h"
@@ -348,8 +349,7 @@ enum status command_due(const struct request *request)
     static struct newest newest;
     if (read_state(request, &newest) != 0)
         return STATUS_NOTHING_DONE;
-    print_due(newest.kept.image, option_given(request, OPTION_JSON));
-    return STATUS_ACCEPTED;
+    return print_due(newest.kept.image, option_given(request, OPTION_JSON));
 }
 
 enum status command_export(const struct request *request)

@@ -68,7 +68,12 @@ static const struct help helps[] = {
     {"due", "crz due FILE  [--json] [--wait SECONDS]\n"
             "\n"
             "The lots that the next morning close works, with their full payment, who must lodge and what each side\n"
-            "has. In an afternoon that is tomorrow's close.\n"},
+            "has. In an afternoon that is tomorrow's close.\n"
+            "What somebody lacks is said of each lot by itself. Behind the lots stands what each account has to pay\n"
+            "in before the morning close, for all of its due lots together: this is what to tell a mill. Whoever\n"
+            "pays that in is no defaulting buyer in the close, whoever else is short, if no other call comes before\n"
+            "it; after another call ask again. In an afternoon nobody has to: today's close is made, and what to\n"
+            "pay in for tomorrow's is shown after the day close.\n"},
     {"import", "crz import FILE IMAGE\n"
                "\n"
                "Makes a new zone that starts with a raw image, as a host of its own keeps it. An image without\n"
@@ -91,7 +96,7 @@ void print_usage(FILE *to)
           "crz log FILE                 the journal in words\n"
           "crz verify FILE              check the journal and the image\n"
           "crz statement FILE ACCOUNT   what an account's money did\n"
-          "crz due FILE                 what the next morning close works\n"
+          "crz due FILE                 what the next morning close works, and who has to pay in before it\n"
           "crz import FILE IMAGE        a new zone from a raw image\n"
           "crz export FILE IMAGE        the raw image into a new file\n"
           "crz help WORD                more on a command or a kind; 'crz help call' lists the kinds of call\n"

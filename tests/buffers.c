@@ -11,7 +11,7 @@
 
 enum { FILL = 0xa5, PAID_IN = 7 };
 
-/* lengths of a call's three buffers */
+/* lengths of a call's three buffers; figures take the place of an answer */
 struct lengths {
     size_t image, call, answer;
 };
@@ -113,9 +113,26 @@ static void try_fresh(enum lent_place place, int null, size_t len)
         expect(all(image.bytes, len, FILL), "crz_fresh writes nothing", place, &of);
 }
 
+/* the figures of a fresh zone are zeros, and the image may only be read */
+static void try_shortfalls(enum lent_place place, int null, const struct lengths *of)
+{
+    size_t written = of->answer < CRZ_FIGURES_LENGTH || of->image != CRZ_IMAGE_LENGTH ? 0 : CRZ_FIGURES_LENGTH;
+    uint32_t wanted = of->answer < CRZ_FIGURES_LENGTH ? CRZ_NUMBER_SHORT_ANSWER : CRZ_NUMBER_BAD_IMAGE, number;
+    lend_all(place, of);
+    lend_for_reading(&image);
+    number = crz_shortfalls(null && image.len == 0 ? NULL : image.bytes, image.len,
+        null && answer.len == 0 ? NULL : answer.bytes, answer.len);
+    expect(number == (written == 0 ? wanted : CRZ_NUMBER_ACCEPTED), "the number of shortfalls", place, of);
+    expect(lent_kept(&image) && lent_kept(&answer), "bytes around image and figures", place, of);
+    expect(memcmp(image.bytes, image_before, image.len) == 0, "the image of shortfalls", place, of);
+    expect(all(answer.bytes, written, 0), "the figures", place, of);
+    expect(all(answer.bytes + written, answer.len - written, FILL), "bytes past the figures", place, of);
+}
+
 /* no byte, one byte, and each length that the interface names with the lengths beside it */
-static const size_t edges[] = {0, 1, CRZ_CALL_LENGTH - 1, CRZ_CALL_LENGTH, CRZ_CALL_LENGTH + 1, CRZ_ANSWER_LENGTH - 1,
-    CRZ_ANSWER_LENGTH, CRZ_ANSWER_LENGTH + 1, CRZ_IMAGE_LENGTH - 1, CRZ_IMAGE_LENGTH, CRZ_IMAGE_LENGTH + 1};
+static const size_t edges[] = {0, 1, CRZ_CALL_LENGTH - 1, CRZ_CALL_LENGTH, CRZ_CALL_LENGTH + 1, CRZ_FIGURES_LENGTH - 1,
+    CRZ_FIGURES_LENGTH, CRZ_FIGURES_LENGTH + 1, CRZ_ANSWER_LENGTH - 1, CRZ_ANSWER_LENGTH, CRZ_ANSWER_LENGTH + 1,
+    CRZ_IMAGE_LENGTH - 1, CRZ_IMAGE_LENGTH, CRZ_IMAGE_LENGTH + 1};
 
 enum { EDGES = sizeof edges / sizeof edges[0] };
 
@@ -125,6 +142,8 @@ static void try_all(enum lent_place place, int null)
     for (i = 0; i < EDGES * EDGES * EDGES; i++) {
         const struct lengths of = {edges[i / (EDGES * EDGES)], edges[i / EDGES % EDGES], edges[i % EDGES]};
         try_call(place, null, &of);
+        if (of.call == 0)
+            try_shortfalls(place, null, &of);
         if (i < EDGES)
             try_fresh(place, null, edges[i]);
     }

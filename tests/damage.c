@@ -1,6 +1,6 @@
 /*
  * Damaged images: the library's verdict beside that of the plain C ledger (02 4/12). Number, image and answer of a call
- * are compared on each.
+ * are compared on each, and number and figures of shortfalls, which have 2 where the call has it.
  *
  * The zones that are damaged have lots in all eight states, with premiums of both signs and invoices confirmed and
  * pending, several of them with one buyer: one with 128 registered receipts, one with unregistered records between, one
@@ -25,6 +25,7 @@
 
 uint32_t plain_call(
     uint8_t *image, size_t image_len, const uint8_t *call, size_t call_len, uint8_t *answer, size_t answer_len);
+uint32_t plain_shortfalls(const uint8_t *image, size_t image_len, uint8_t *figures, size_t figures_len);
 
 enum { DAY = 100, ASK = 15000, STATES = 8 };
 
@@ -73,6 +74,19 @@ static void put_some_call(uint8_t *call)
     }
 }
 
+/* shortfalls of the image on both sides, which is bad or not */
+static int same_figures(int bad)
+{
+    static uint8_t figures[CRZ_FIGURES_LENGTH], other[CRZ_FIGURES_LENGTH];
+    uint32_t number;
+    memset(figures, 0xa5, sizeof figures);
+    memset(other, 0xa5, sizeof other);
+    number = crz_shortfalls(image, sizeof image, figures, sizeof figures);
+    return number == (uint32_t)(bad ? CRZ_NUMBER_BAD_IMAGE : CRZ_NUMBER_ACCEPTED)
+           && number == plain_shortfalls(image, sizeof image, other, sizeof other)
+           && memcmp(figures, other, sizeof figures) == 0;
+}
+
 /* makes a call on the image on both sides; the number, or -1 where they differ */
 static int judge(void)
 {
@@ -89,6 +103,7 @@ static int judge(void)
     same = number == plain_call(theirs, sizeof theirs, call, sizeof call, other, sizeof other);
     same &= memcmp(ours, theirs, sizeof ours) == 0 && memcmp(answer, other, sizeof answer) == 0;
     same &= number == CRZ_NUMBER_ACCEPTED || memcmp(ours, image, sizeof ours) == 0;
+    same &= same_figures(number == CRZ_NUMBER_BAD_IMAGE);
     return same ? (int)number : -1;
 }
 

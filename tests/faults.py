@@ -13,12 +13,13 @@ import sys
 
 archive, folder = sys.argv[1:]
 compiler = ["gcc", "-std=c99", "-O0", "-Iinclude"]
-as_library = ["-Dcrz_call=plain_call", "-Dcrz_fresh=plain_fresh", "-Dcrz_table=plain_table"]
+as_library = ["-Dcrz_%s=plain_%s" % (entry, entry) for entry in ("call", "fresh", "table", "shortfalls")]
 programs = {
     "longrun": (sorted(glob.glob("tests/longrun*.c")) + ["tests/lent.c"], []),
     "buffers": (["tests/buffers.c", "tests/lent.c"], as_library),
     "cuts": (["tests/cuts.c"], as_library),
     "damage": (["tests/damage.c"], []),
+    "shortfalls": (sorted(glob.glob("tests/shortfalls*.c")) + ["tests/lent.c"], as_library),
     "tables": (["tests/tables.c", "tests/lent.c"], as_library),
 }
 
@@ -55,9 +56,9 @@ def run(program, objects, ledger):
 
 def seen(program, status, said):
     """By a difference in the program's own words, by one of its tests, or by a wall."""
-    if program in ("buffers", "tables") and status == -signal.SIGSEGV:
+    if program in ("buffers", "shortfalls", "tables") and status == -signal.SIGSEGV:
         return "seen by %s, at a wall" % program
-    if program in ("cuts", "damage", "tables"):
+    if program in ("cuts", "damage", "shortfalls", "tables"):
         test = re.search(r"^failed: (.*)", said, re.M)
         return "seen by %s: %s" % (program, test.group(1)) if test and status == 1 else None
     if program == "buffers":

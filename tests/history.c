@@ -1,8 +1,9 @@
 /*
  * The history table beside the runs of the vectors: fed with call records and answers alone, and after every call, or
  * table of calls, held against the image. A table's calls are fed one by one, each with its own answer, which tells
- * whether it was accepted; one that was not made feeds nothing. Usage: history LIST. The last line is 'N passed, M
- * failed'; a call or a table with its four sentences counts once.
+ * whether it was accepted; one that was not made feeds nothing. Shortfalls feed nothing either, and the four sentences
+ * hold after them as before. Usage: history LIST. The last line is 'N passed, M failed'; a call, a table or shortfalls
+ * with the four sentences count once.
  */
 #include "../host/history.h"
 #include "../include/crz_records.h"
@@ -63,6 +64,14 @@ static int step_holds(const struct vector_step *step, entry *made)
     return number == step->number && holds(finding);
 }
 
+/* whether shortfalls have the number that the vectors say, and leave an image that the history still fits */
+static int shortfalls_hold(const struct vector_step *step)
+{
+    const struct finding none = {SENTENCE_NONE, 0};
+    uint32_t number = crz_shortfalls(image, sizeof image, answer, step->answer_len);
+    return number == step->number && holds(none);
+}
+
 /* the table knows an image only from its fresh start on */
 static int make(const struct vector_step *step)
 {
@@ -70,6 +79,7 @@ static int make(const struct vector_step *step)
     case STEP_FRESH: return start();
     case STEP_CALL: return step_holds(step, crz_call);
     case STEP_TABLE: return step_holds(step, crz_table);
+    case STEP_SHORTFALLS: return shortfalls_hold(step);
     default: return 0;
     }
 }

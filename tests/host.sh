@@ -366,13 +366,154 @@ sed '/^morning-close/,$d' "$here/host/day.txt" >script
 "$crz" new noon >/dev/null && "$crz" play noon script >/dev/null
 ends 0 "the next morning close, of day 1 (today), works 3 lots" due noon
 ends 0 "lot 1, due day 1: lodged, full payment 63,092,610 fen, seller 1 has lodged" due noon
-ends 0 "buyer 13 has 1,000,000 fen free and the deposit of 5,000,000 fen, lacks 55,782,000 fen" due noon
+ends 0 "buyer 13 has 1,000,000 fen free and the deposit of 5,000,000 fen, lacks 55,782,000 fen for this lot alone" due noon
 ends 0 "lot 3, due day 1: struck, full payment 60,560,000 fen, seller 3 must lodge" due noon
 ends 0 "held for lot 1, lodged, premium 100: 5,000,000 fen" statement noon 11
 ends 0 "held from the buyer 5,000,000 fen" show noon
 printf 'morning-close\n' | "$crz" play noon - >/dev/null
 ends 0 "seller 3 owes 5,000,000 fen to buyer 14" due noon
 ends 0 "(tomorrow: today's is made), works 1 lot" due noon
+
+# ── What to pay in before the close ─────────────────────────────────────────────────────────────────
+made="today's close is made, nothing is to be paid in for it; what to pay in for tomorrow's is shown after the day close"
+nobody="nobody has to pay in before the morning close"
+# asks_nobody ZONE TEXT: due has no figure and ends with the text
+asks_nobody() {
+    holds "due $1 ends with: $2" test "$("$crz" due "$1" | tail -n 1)" = "$2"
+    holds "due $1 asks nobody" test "$("$crz" due "$1" | grep -c 'has to pay in .* fen')" -eq 0
+}
+# asked ZONE: what due asks for, ACCOUNT=FEN for each account
+asked() {
+    "$crz" due "$1" | sed -n 's/^  account \([0-9]*\) has to pay in \([0-9,]*\) fen before the morning close$/\1=\2/p' |
+        tr -d , | tr '\n' ' '
+}
+asks_nobody day "$made"
+asks_nobody noon "$made"
+"$crz" new short >/dev/null && cp short unused
+asks_nobody short "$nobody"
+# Ginners 3 and 16 do not lodge on day 1, and owe mill 20 a penalty by the morning close of day 2.
+cat >script <<'END'
+pay-in account 20 fen 1,000,000,000
+pay-in account 3 fen 1,200,000
+register account 3 receipt 30 kilograms 41,237
+register account 16 receipt 31 kilograms 41,237
+list account 3 receipt 30 contract 1 days 0 basis-yuan 300
+list account 16 receipt 31 contract 1 days 0 basis-yuan 300
+quote contract 1 yuan 15,000
+market-bid account 20 receipt 30
+market-bid account 20 receipt 31
+END
+"$crz" play short script >/dev/null
+asks_nobody short "$nobody"
+"$crz" call short morning-close >/dev/null
+ends 0 "seller 3 has 1,200,000 fen free, lacks 3,800,000 fen for this lot alone" due short
+asks_nobody short "$made"
+"$crz" call short day-close >/dev/null
+holds "a penalty alone: $(asked short)" test "$(asked short)" = "3=3800000 16=5000000 "
+# On day 2 mill 11 buys two lots, and its money covers each of them alone; 12 lacks a fen; 13 has none, and its seller
+# has not lodged; the lot of 14 costs less than the deposit, that of 15 is due tomorrow; 16 buys one beside its penalty.
+for lot in 1 2 3 4 5 6 7; do
+    weight=41,237 basis=300 days=0
+    [ "$lot" -ne 5 ] || { weight=1,000 basis=-14,999; }
+    [ "$lot" -ne 6 ] || days=1
+    echo "register account 1 receipt $lot kilograms $weight"
+    echo "list account 1 receipt $lot contract 1 days $days basis-yuan $basis"
+done >script
+cat >>script <<'END'
+quote contract 1 yuan 15,000
+pay-in account 11 fen 70,000,000
+market-bid account 11 receipt 1
+market-bid account 11 receipt 2
+pay-in account 12 fen 63,092,609
+market-bid account 12 receipt 3
+pay-in account 13 fen 5,000,000
+market-bid account 13 receipt 4
+pay-in account 14 fen 5,000,000
+market-bid account 14 receipt 5
+pay-in account 15 fen 5,000,000
+market-bid account 15 receipt 6
+pay-in account 16 fen 12,000,000
+market-bid account 16 receipt 7
+END
+for lot in 1 2 3 5 6 7; do echo "lodge account 1 receipt $lot"; done >>script
+ends 0 " accepted, 0 refused" play short script
+ends 0 "the next morning close, of day 2 (today), works 8 lots" due short
+figures="3=3800000 11=56185220 12=1 13=58092610 16=56092610 "
+holds "what each has to pay in: $(asked short)" test "$(asked short)" = "$figures"
+"$crz" due short >short.due
+# explained ACCOUNT FEN ASKED FREE: the lines of an account, one behind the other
+explained() {
+    holds "account $1 has to pay in $2 fen" grep -qxF "      its due lots together ask for $3 fen beyond deposits, it has $4 fen free" \
+        <(grep -xFA 1 "  account $1 has to pay in $2 fen before the morning close" short.due)
+}
+explained 3 3,800,000 5,000,000 1,200,000
+explained 11 56,185,220 116,185,220 60,000,000
+explained 12 1 58,092,610 58,092,609
+explained 13 58,092,610 58,092,610 0
+explained 16 56,092,610 63,092,610 7,000,000
+ends 0 "buyer 12 has 58,092,609 fen free and the deposit of 5,000,000 fen, lacks 1 fen for this lot alone" due short
+holds "mill 11 lacks nothing for either lot alone" test "$(grep -c 'buyer 11 has .* deposit of 5,000,000 fen$' short.due)" -eq 2
+holds "the accounts stand behind the lots" test "$(sed -n 's/^  \([a-z]\+\) .*/\1/p' short.due | uniq -c | tr -s ' \n' ' ')" = \
+    " 8 lot 5 account "
+holds "where somebody has to pay in, it does not say nobody" test "$(grep -c nobody short.due)" -eq 0
+"$crz" export short short.image >/dev/null && "$crz" due short >/dev/null && "$crz" export short short.again >/dev/null
+holds "asking changes nothing" cmp -s short.image short.again
+# moved NAME OFFSET NUMBER: a zone with that image, one byte of it another
+moved() {
+    python3 -c 'import sys; b = bytearray(open("short.image", "rb").read()); b[int(sys.argv[2])] = int(sys.argv[3])
+open(sys.argv[1], "wb").write(b)' "$1.image" "$(named "$2")" "$3"
+    "$crz" import "$1" "$1.image" >/dev/null
+}
+moved afternoon CRZ_IMAGE_PHASE 1
+ends 0 "the next morning close, of day 3 (tomorrow: today's is made), works 9 lots" due afternoon
+asks_nobody afternoon "$made" # though lots are left that were due today
+moved overdue CRZ_IMAGE_DAY 3
+holds "what was due yesterday is due: $(asked overdue)" test "$(asked overdue)" = "3=3800000 11=56185220 12=1 13=58092610 15=58092610 16=56092610 "
+moved early CRZ_IMAGE_DAY 1
+ends 0 "the next morning close, of day 1 (today), works 0 lots" due early
+asks_nobody early "$nobody"
+# close_after NAME ACCOUNT=FEN..: these pay in, then comes the close; NAME.due and NAME.said are what is said before and of it
+close_after() {
+    local name=$1 one
+    shift
+    cp short "$name"
+    for one; do echo "pay-in account ${one%=*} fen ${one#*=}"; done | "$crz" play "$name" - >/dev/null
+    "$crz" due "$name" >"$name.due"
+    "$crz" call "$name" morning-close >"$name.said"
+}
+# defaults NAME [ACCOUNT]: lots in whose default a buyer is named, or that buyer
+defaults() {
+    grep -c "\(buyer default\|both defaulted\), buyer ${2:-[0-9]*}," "$1.said"
+}
+close_after nobody.paid
+holds "where nobody pays in, each of these buyers defaults" test "$(defaults nobody.paid)" -ge 4
+# shellcheck disable=SC2086 # one word for each account
+close_after all.paid $figures
+holds "once all have paid in nobody has to" grep -qxF "$nobody" all.paid.due
+holds "all have paid in: no default" test "$(defaults all.paid)" -eq 0
+holds "all have paid in: both penalties pass whole" test "$(grep -c 'penalty, .*, 5,000,000 fen' all.paid.said)" -eq 2
+asks_nobody all.paid "$made"
+for one in 11=56185220 12=1 13=58092610 16=56092610; do
+    close_after alone "$one"
+    holds "account ${one%=*} alone has paid in: it is in no default" test "$(defaults alone "${one%=*}")" -eq 0
+    holds "account ${one%=*} alone has paid in: the others default" test "$(defaults alone)" -ge 3
+done
+# 12 and 13 have one due trade as buyers and no part in another due lot: a fen less is a default
+close_after fen.less 13=58092609
+holds "a fen less: it is what is left to pay in" grep -qxF "  account 13 has to pay in 1 fen before the morning close" fen.less.due
+holds "a fen less, not lodged: both defaulted" grep -qF "lot 4: both defaulted, buyer 13, seller 1" fen.less.said
+holds "a fen less, lodged: a buyer default" grep -qF "lot 3: buyer default, buyer 12, seller 1, 5,000,000 fen" fen.less.said
+# A library that refuses what it never should: the program says so and shows nothing.
+echo '#include "crz.h"
+uint32_t refused(const uint8_t *image, size_t image_len, uint8_t *figures, size_t figures_len)
+{
+    return image[0] != 0 && image_len != 0 && figures != NULL && figures_len != 0 ? CRZ_NUMBER_BAD_IMAGE : 0;
+}' >refused.c
+holds "a program with such a library" gcc -std=c99 -Dcrz_shortfalls=refused -I"$here/include" -o refusing "$here"/host/*.c refused.c \
+    "$here/target/staticlib/libcrz.a" -lsqlite3 -lcrypto
+crz=./refusing ends 3 "crz: the library returns 2 where it is asked for the shortfalls" due short
+crz=./refusing ends 3 "crz: the library returns 2 where it is asked for the shortfalls" due short --json
+holds "and nothing is shown" test -z "$(./refusing due short 2>/dev/null)"
 
 # ── A desk with books of its own ────────────────────────────────────────────────────────────────────
 # desk ZONE SEED OPTION..: 1,500 random calls
@@ -397,6 +538,12 @@ for seed in 131 91; do
     ends 0 "1,500 of them in 47 tables" verify "tables.$seed"
     holds "the same zone in tables" cmp -s <("$crz" show "desk.$seed") <("$crz" show "tables.$seed")
 done
+# Many accounts are short: the first run ends in a morning in which some have to pay in, the second in an afternoon.
+for seed in 16 53; do
+    desk "desk.$seed" "$seed" --short
+done
+holds "some have to pay in at the end: $(asked desk.16)" test "$(asked desk.16 | wc -w)" -eq 4
+asks_nobody desk.53 "$made"
 
 # ── Tables of calls ─────────────────────────────────────────────────────────────────────────────────
 # words ZONE: the calls of its log, as a script
@@ -589,6 +736,12 @@ objects 'assert {bool(lot["pending_fen"]) for lot in kinds["lot"] if lot["state"
 objects 'b = kinds["balance"][0]; assert b["pay_ins_fen"] - b["passed_fen"] == b["free_fen"] == 36907390' statement day 11
 objects 'assert [m["out_fen"] for m in kinds["movement"]] == [None, 50474088, 6000000, 6618522]' statement day 11
 objects 'assert kinds["close"][0]["lots"] == 1 and kinds["due"][0]["penalty_fen"] == 5000000' due noon
+objects 'assert list(kinds) == ["close", "due", "shortfall"] and kinds["shortfall"] == [{"type": "shortfall", "account": a, "fen": fen}
+    for a, fen in ((3, 3800000), (11, 56185220), (12, 1), (13, 58092610), (16, 56092610))]' due short
+objects 'assert kinds["close"] == [{"type": "close", "day": 2, "today": True, "lots": 8}] and len(kinds["due"]) == 8' due short
+objects 'assert kinds["close"] == [{"type": "close", "day": 3, "today": False, "lots": 2}] and "shortfall" not in kinds' due all.paid
+objects 'assert [(d["lot"], d["lacks_fen"]) for d in kinds["due"]] == [(4, 5000000), (6, 58092610)]' due all.paid
+objects 'assert list(kinds) == ["close"] and kinds["close"][0]["today"]' due unused
 objects 'c = kinds["call"][0]; assert c["accepted"] and c["number"] == 0 and c["sequence"] == 35 and c["reason"] is None' \
     call day pay-in account 96 fen 3
 objects 'c = kinds["call"][0]; assert not c["accepted"] and c["seen"].startswith("account 97") and c["total_fen"] is None' \
@@ -772,7 +925,7 @@ holds "the README's samples" test $? -eq 0
 sed -n '/^`open.txt`:$/,/^one commit/s/^    //p' "$here/docs/GUIDE.md" >guide/open.txt
 (cd guide && python3 "$here/tests/host_samples.py" "$crz" "$here/docs/GUIDE.md")
 holds "the guide's samples" test $? -eq 0
-ends 0 "replay: 39 calls compared, 5 of them in 1 table, 38 accepted and 1 refused" verify guide/target/day.crz
+ends 0 "replay: 42 calls compared, 5 of them in 1 table, 41 accepted and 1 refused" verify guide/target/day.crz
 # guided NUMBER NAME: a program with the guide's lines in C of that number, on an image from standard input
 guided() {
     cat >"$2.c" <<'END'
@@ -792,6 +945,7 @@ END
 }
 holds "the guide's lines in C" guided 1 ours
 holds "the guide's table of calls in C" guided 2 ours.table
+holds "the guide's shortfalls in C" guided 3 ours.figures
 "$crz" new ours.zone >/dev/null && "$crz" export ours.zone ours.image >/dev/null
 holds "what it prints: $(./ours.table <ours.image)" test "$(./ours.table <ours.image)" = "call 0: number 0
 call 1: number 11
@@ -800,6 +954,13 @@ head -c "$image_length" /dev/zero >ours.zeros
 holds "and on no valid image" test "$(./ours.table <ours.zeros)" = "call 0: number 2
 call 1: number 2
 call 2: number 2"
+holds "what the figures are: $(./ours.figures <short.image)" test "$(./ours.figures <short.image)" = "account 3 has to pay in 3800000 fen
+account 11 has to pay in 56185220 fen
+account 12 has to pay in 1 fen
+account 13 has to pay in 58092610 fen
+account 16 has to pay in 56092610 fen"
+holds "and on no valid image" test "$(./ours.figures <ours.zeros)" = "number 2, no figures"
+holds "and where nobody has to pay in" test -z "$(./ours.figures <ours.image)"
 # on the image of an invoice that waits
 "$crz" call cut.thirds invoice account 1 receipt 3 fen 4 >/dev/null && "$crz" export cut.thirds thirds.image >/dev/null
 holds "what they print: $(./ours <thirds.image)" test "$(./ours <thirds.image)" = "lot 3: left to invoice 30 fen

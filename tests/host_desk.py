@@ -1,11 +1,14 @@
-"""A desk with books of its own: host_desk.py PROGRAM ZONE SEED CALLS [--table]
+"""A desk with books of its own: host_desk.py PROGRAM ZONE SEED CALLS [--short] [--table]
 
 Plays random calls through the program on a fresh zone, one by one or in tables, and compares each answer, with the
-words of each refusal, and then what show, due and statement say, with books that are kept here apart. The last line is
-'N passed, M failed'.
+words of each refusal, what due says from time to time, and then what show and statement say, with books that are kept
+here apart. In copies of the zone accounts pay in what due asks of them, or a fen less, and the morning close is made.
+With --short many accounts are short of money. The last line is 'N passed, M failed'.
 """
+import copy
 import json
 import random
+import shutil
 import subprocess
 import sys
 
@@ -22,6 +25,7 @@ FIELDS = {
     "confirm": PARTIES, "day-close": [],
 }
 OFTEN = [10, 4, 8, 30, 1, 30, 6, 2, 6, 25, 3, 15, 25, 25, 3]
+OFTEN_SHORT = [14, 4, 8, 30, 1, 20, 30, 2, 8, 12, 3, 8, 4, 4, 3]  # more trades that come due, with less money
 RANGES = {"account": (1, 96), "receipt": (1, 128), "contract": (1, 8), "days": (0, 3), "fen": (1, 10 ** 12),
           "yuan": (5, 200000), "basis_yuan": (-50000, 50000), "kilograms": (1000, 60000),
           "premium_yuan": (-5000, 5000)}
@@ -35,6 +39,10 @@ BIDS = ["limit-bid", "market-bid"]
 REACH = ["settled", "sold again by its buyer", "paid in full", "penalty", "number 10 turned by it"]
 # Parts of the rest that a run must pay.
 PARTS = {"0 fen", "more than its invoice would pay alone", "the last of several", "all in one"}
+# What figures a run must come to, and what must be seen of them.
+FIGURES = {"none in a morning with lots due", "an afternoon with lots due", "of one account", "of several accounts",
+           "of a penalty", "of one trade", "of several trades", "of a penalty and a trade", "of a trade below the deposit",
+           "paid in", "a fen less"}
 
 
 def word_of(name):
@@ -92,6 +100,7 @@ class Books:
         self.movements = {}  # of an account: (what, lot, other account, in, out, premium where a full payment counts it)
         self.reached = set()  # (what, whether the premium is above 0)
         self.parts = set()  # kinds of parts of a rest that were paid
+        self.figures_seen = set()  # kinds of figures that were asked for, and what came of them
 
     def frozen(self, account):
         return sum(lot.held() for lot in self.lots.values() if lot.buyer == account)
@@ -309,6 +318,41 @@ class Books:
         return [n for n in sorted(self.lots) if self.lots[n].state in (STRUCK, LODGED, PENALTY_DUE) and
                 self.lots[n].due <= day]
 
+    def asked_lots(self, account):
+        """Today's penalties that the account owes, and today's trades that it buys (02 6/12)."""
+        due = [self.lots[n] for n in self.due_lots(self.day)]
+        return ([lot for lot in due if lot.state == PENALTY_DUE and lot.seller == account],
+                [lot for lot in due if lot.state in (STRUCK, LODGED) and lot.buyer == account])
+
+    def figure(self, account):
+        """What the account has to pay in before the morning close (02 6/12)."""
+        penalties, trades = self.asked_lots(account)
+        asked = PENALTY * len(penalties) + sum(max(0, lot.full() - DEPOSIT) for lot in trades)
+        return 0 if self.afternoon else max(0, asked - self.free[account])
+
+    def figures(self):
+        return {a: self.figure(a) for a in range(1, 97) if self.figure(a) > 0}
+
+    def note_figure(self, account):
+        penalties, trades = self.asked_lots(account)
+        if penalties and trades:
+            self.figures_seen.add("of a penalty and a trade")
+        elif penalties:
+            self.figures_seen.add("of a penalty")
+        else:
+            self.figures_seen.add("of one trade" if len(trades) == 1 else "of several trades")
+        if any(lot.full() < DEPOSIT for lot in trades):
+            self.figures_seen.add("of a trade below the deposit")
+
+    def note_figures(self):
+        figures, lots = self.figures(), self.due_lots(self.day + self.afternoon)
+        for account in figures:
+            self.note_figure(account)
+        if figures:
+            self.figures_seen.add("of one account" if len(figures) == 1 else "of several accounts")
+        elif lots:
+            self.figures_seen.add("an afternoon with lots due" if self.afternoon else "none in a morning with lots due")
+
     def morning_close(self, _):
         entries = [self.close_lot(n, self.lots[n]) for n in self.due_lots(self.day)]
         self.afternoon = True
@@ -374,19 +418,21 @@ def some_account(chance, kind, lot):
     return chance.choice(list(range(1, 13)) + [96]) if chance.random() < 0.97 else chance.choice([0, 97, 255])
 
 
-def some_fen(chance, kind, lot):
+def some_fen(chance, kind, lot, short):
+    if short and kind in ("pay-in", "take-out"):
+        return chance.choice([1, 10 ** 6, DEPOSIT, DEPOSIT, 70000000])
     if kind == "invoice" and lot and lot.state == FIRST_PAID:
         left = lot.full() - lot.confirmed
         return chance.choice([left, left, max(1, left // 2), max(1, left // 3), left + 1, 1])
     return chance.choice([0, 1, 10 ** 6, DEPOSIT, 70000000, 10 ** 9, 10 ** 12, 10 ** 12 + 1])
 
 
-def some_call(chance, books):
-    kind = chance.choices(list(FIELDS), OFTEN)[0]
+def some_call(chance, books, short):
+    kind = chance.choices(list(FIELDS), OFTEN_SHORT if short else OFTEN)[0]
     receipt = some_lot(chance, books, kind)
     lot = books.lots.get(receipt)
     fields = {
-        "account": some_account(chance, kind, lot), "receipt": receipt, "fen": some_fen(chance, kind, lot),
+        "account": some_account(chance, kind, lot), "receipt": receipt, "fen": some_fen(chance, kind, lot, short),
         "contract": chance.choice([1, 1, 1, 1, 2, 2, 8, 9]), "days": chance.choice([0, 0, 0, 1, 2, 3, 4]),
         "yuan": chance.choice([0, 3, 5, 14990, 14995, 15000, 15005, 15010, 200000, 200005]),
         "basis_yuan": chance.choice([-50000, -14999, -4, 0, 0, 300, 300, 50000, 50001]),
@@ -425,11 +471,11 @@ def entry_fields(entry):
     return (entry["lot"], entry["outcome"], entry["from"], entry["to"] or 0, entry["fen"] or entry["yuan"] or 0)
 
 
-def make_script(books, seed, calls):
+def make_script(books, chance, calls, short):
     """The calls in words, and what is wanted of each: (call, number, words, entries, next part and left to invoice)."""
-    chance, script, wanted = random.Random(seed), "", []
+    script, wanted = "", []
     for _ in range(calls):
-        kind, f = some_call(chance, books)
+        kind, f = some_call(chance, books, short)
         script += in_words(chance, kind, f)
         wanted.append((dict(f, kind=kind), *books.call(kind, f)))
     return script, wanted
@@ -441,21 +487,34 @@ def table_of(place, calls, options):
     return {"first": first + 1, "last": min(first + TABLE, calls)} if "--table" in options else None
 
 
-def compare_tables(check, said, options):
+def compare_tables(check, said, played, options):
     """Which calls were made together."""
-    calls = len(said) - 1
-    tables = [table_of(place, calls, options) for place in range(calls)]
+    tables = [table_of(place, len(said), options) for place in range(len(said))]
     through = "crz_table" if "--table" in options else "crz_call"
-    check.same("tables", [o["table"] for o in said[:-1]], tables)
-    check.same("entries that calls went through", {o["through"] for o in said[:-1]}, {through})
+    check.same("tables", [o["table"] for o in said], tables)
+    check.same("entries that calls went through", {o["through"] for o in said}, {through})
     check.same("times of a table", len({o["time"] for o in said[:TABLE]}) == 1 or "--table" not in options, True)
-    check.same("tables counted", said[-1]["tables"], len({t["first"] for t in tables if t}))
+    check.same("tables counted", sum(o["tables"] for o in played), len({t["first"] for t in tables if t}))
 
 
-def compare_answers(check, program, zone, script, wanted, options):
-    said = objects(program, "play", zone, "-", *options, script=script.encode())
-    check.same("calls played", len(said) - 1, len(wanted))
-    compare_tables(check, said, options)
+def play(check, program, zone, books, seed, calls, short, options):
+    """Plays the calls in parts of whole tables and asks after each part what is due: what was said, and wanted."""
+    chance, said, wanted = random.Random(seed), [], []
+    part = TABLE if short else 5 * TABLE
+    for place in range(0, calls, part):
+        script, more = make_script(books, chance, min(part, calls - place), short)
+        said += objects(program, "play", zone, "-", *options, script=script.encode())
+        wanted += more
+        compare_due(check, program, zone, books)
+        compare_pay_ins(check, program, zone, books)
+        books.note_figures()
+    return said, wanted
+
+
+def compare_answers(check, answers, wanted, options):
+    said, played = [[o for o in answers if o["type"] == kind] for kind in ("call", "played")]
+    check.same("calls played", len(said), len(wanted))
+    compare_tables(check, said, played, options)
     for got, (call, number, seen, entries, invoiced) in zip(said, wanted):
         check.same("answer to %s" % call, (got["call"], got["number"], got["seen"]), (call, number, seen))
         check.same("entries of %s" % call, list(map(entry_fields, got["entries"])), entries)
@@ -510,11 +569,81 @@ def due_object(books, number):
     }
 
 
+def due_words(due):
+    """The lines of a lot, by its object."""
+    lacks = ", lacks %s fen for this lot alone" % grouped(due["lacks_fen"]) if due["lacks_fen"] else ""
+    lines = ["  lot %d, due day %s: %s" % (due["lot"], grouped(due["due"]), due["state"]),
+             "      seller %d has %s fen free" % (due["seller"], grouped(due["seller_free_fen"]))]
+    if due["penalty_fen"]:
+        lines[0] += ", seller %d owes 5,000,000 fen to buyer %d" % (due["seller"], due["buyer"])
+        return [lines[0], lines[1] + lacks]
+    lines[0] += ", full payment %s fen, seller %d %s" % (
+        grouped(due["full_fen"]), due["seller"], "must lodge" if due["must_lodge"] else "has lodged")
+    return lines + ["      buyer %d has %s fen free and the deposit of 5,000,000 fen%s" % (
+        due["buyer"], grouped(due["buyer_free_fen"]), lacks)]
+
+
+def figure_words(books, account, fen):
+    free = books.free[account]
+    return ["  account %d has to pay in %s fen before the morning close" % (account, grouped(fen)),
+            "      its due lots together ask for %s fen beyond deposits, it has %s fen free" % (
+                grouped(fen + free), grouped(free))]
+
+
+def close_words(books, day, lots):
+    return "the next morning close, of day %s (%s), works %d lot%s" % (
+        grouped(day), "tomorrow: today's is made" if books.afternoon else "today", lots, "" if lots == 1 else "s")
+
+
 def compare_due(check, program, zone, books):
+    """Objects and words: the close, the lots that it works, and what each account has to pay in."""
     day = books.day + 1 if books.afternoon else books.day
-    lots = books.due_lots(day)
+    lots, figures = [due_object(books, n) for n in books.due_lots(day)], books.figures()
     close = {"type": "close", "day": day, "today": not books.afternoon, "lots": len(lots)}
-    check.same("what is due", objects(program, "due", zone), [close] + [due_object(books, n) for n in lots])
+    check.same("what is due", objects(program, "due", zone), [close] + lots + [
+        {"type": "shortfall", "account": account, "fen": fen} for account, fen in figures.items()])
+    nobody = ["today's close is made, nothing is to be paid in for it; what to pay in for tomorrow's is shown after the day "
+              "close" if books.afternoon else "nobody has to pay in before the morning close"]
+    asked = [line for account, fen in figures.items() for line in figure_words(books, account, fen)]
+    said = subprocess.run([program, "due", zone], stdout=subprocess.PIPE, check=False).stdout.decode()
+    check.same("what is due, in words", said.splitlines(), [close_words(books, day, len(lots))] + [
+        line for due in lots for line in due_words(due)] + (asked or nobody))
+
+
+# ── What figures are for ──
+
+def close_after(check, program, zone, books, pay_ins):
+    """In a copy of the zone these accounts pay in, and the morning close is made: the buyers in its defaults."""
+    copied, books = zone + ".copy", copy.deepcopy(books)
+    shutil.copy(zone, copied)
+    script = "".join("pay-in account %d fen %d\n" % pay_in for pay_in in pay_ins.items()) + "morning-close\n"
+    close = objects(program, "play", copied, "-", "--table", script=script.encode())[-2]
+    for account, fen in pay_ins.items():
+        books.call("pay-in", {"account": account, "fen": fen})
+    entries = list(map(entry_fields, close["entries"]))
+    check.same("the close after %s" % pay_ins, entries, books.call("morning-close", {})[2])
+    return {buyer for _, outcome, buyer, _, _ in entries if outcome in ("buyer default", "both defaulted")}
+
+
+def one_trade(books, account):
+    """Whether the account has a part in a single due lot, and buys it."""
+    due = [books.lots[n] for n in books.due_lots(books.day)]
+    return [lot for lot in due if account in (lot.seller, lot.buyer)] == books.asked_lots(account)[1][:1]
+
+
+def compare_pay_ins(check, program, zone, books):
+    """Who pays its figure in is in no default, with the others or alone; a fen less is one (02 6/12)."""
+    figures = books.figures()
+    if figures:
+        check.same("defaults after all pay-ins", close_after(check, program, zone, books, figures), set())
+    for account, fen in figures.items():
+        short = close_after(check, program, zone, books, {account: fen})
+        check.same("account %d pays in alone" % account, account in short, False)
+        books.figures_seen.add("paid in")
+        if one_trade(books, account):
+            short = close_after(check, program, zone, books, {account: fen - 1} if fen > 1 else {})
+            check.same("account %d pays in a fen less" % account, account in short, True)
+            books.figures_seen.add("a fen less")
 
 
 def sums(movements):
@@ -556,17 +685,25 @@ def compare_statement(check, program, zone, books, account):
     check.same("the line of account %d" % account, adds_up, books.free[account] + books.frozen(account))
 
 
-def main():
-    program, zone, seed, calls, *options = sys.argv[1:]
-    check, books = Check(), Books()
-    compare_answers(check, program, zone, *make_script(books, int(seed), int(calls)), options)
-    compare_show(check, program, zone, books)
-    compare_due(check, program, zone, books)
-    for account in range(1, 97):
-        compare_statement(check, program, zone, books, account)
+def compare_reached(check, books, short):
+    """What a run must come to, so that it is no easy one."""
+    if short:
+        check.same("figures", FIGURES - books.figures_seen, set())
+        return
     wanted = {(what, above) for what in REACH for above in (False, True)}
     check.same("what premiums of both signs came to", wanted - books.reached, set())
     check.same("parts of a rest", PARTS - books.parts, set())
+
+
+def main():
+    program, zone, seed, calls, *options = sys.argv[1:]
+    short, options = "--short" in options, [o for o in options if o != "--short"]
+    check, books = Check(), Books()
+    compare_answers(check, *play(check, program, zone, books, int(seed), int(calls), short, options), options)
+    compare_show(check, program, zone, books)
+    for account in range(1, 97):
+        compare_statement(check, program, zone, books, account)
+    compare_reached(check, books, short)
     print("seed %s: day %d, %s, %d lots due" % (seed, books.day, "afternoon" if books.afternoon else "morning",
                                                len(books.due_lots(books.day + books.afternoon))))
     print("%d passed, %d failed" % (check.passed, check.failed))

@@ -28,6 +28,15 @@ static uint8_t *make_room(void)
     return all + page;
 }
 
+static void protect(struct lent *lent, int read_only)
+{
+    if (mprotect(lent->room, room_length(), read_only ? PROT_READ : PROT_READ | PROT_WRITE) != 0) {
+        perror("a room that is only read");
+        exit(2);
+    }
+    lent->read_only = read_only;
+}
+
 /* painted bytes before and behind the buffer: as many as there is room for */
 static size_t painted_before(const struct lent *lent)
 {
@@ -47,6 +56,8 @@ void lend(struct lent *lent, enum lent_place place, size_t len)
         lent->room = make_room();
     if (len > LENT_MOST)
         exit(2);
+    if (lent->read_only)
+        protect(lent, 0);
     lent->len = len;
     switch (place) {
     case LENT_END_AT_WALL: lent->bytes = lent->room + room_length() - len; break;
@@ -67,6 +78,11 @@ void lend_filled(struct lent *lent, enum lent_place place, uint8_t fill, size_t 
 {
     lend(lent, place, len);
     memset(lent->bytes, fill, len);
+}
+
+void lend_for_reading(struct lent *lent)
+{
+    protect(lent, 1);
 }
 
 uint8_t *lend_nothing(void)

@@ -18,6 +18,7 @@ struct lent {
     uint8_t *room;
     uint8_t *bytes;
     size_t len;
+    int read_only;
 };
 
 /* Puts the buffer, whose content is then open, at its place. */
@@ -28,6 +29,9 @@ void lend_bytes(struct lent *lent, enum lent_place place, const uint8_t *bytes, 
 
 /* The same with one byte all over. */
 void lend_filled(struct lent *lent, enum lent_place place, uint8_t fill, size_t len);
+
+/* From here on a write ends the program, until the buffer is lent again. */
+void lend_for_reading(struct lent *lent);
 
 /* Whether the bytes around the buffer are still as painted. */
 int lent_kept(const struct lent *lent);

@@ -4,11 +4,13 @@
  * lots through all states, the others are wild: random bytes, fields out of range, wrong lengths, short answers, and
  * copies of the image with a field out of place or with what a lot holds elsewhere. A part of the calls goes in tables,
  * after each of which number, image and all answers are compared; some tables have lengths that are refused, some meet
- * those copies. The library's buffers stand between painted bytes or at a wall.
+ * those copies. Between the calls, and on those copies and others with many lots due, shortfalls are asked for: number
+ * and figures are compared, and each figure with a count for its account alone. The library's buffers stand between
+ * painted bytes or at a wall.
  *
- * longrun         all runs, then what was reached. The last line is 'N passed, M failed': N counts the calls and tables
- *                 that agree and what was reached, M the differences and what was never reached
- * longrun first   ends at the first difference
+ * longrun         all runs, then what was reached. The last line is 'N passed, M failed': N counts the calls, tables
+ * and shortfalls that agree and what was reached, M the differences and what was never reached longrun first   ends at
+ * the first difference
  */
 #include "longrun.h"
 
@@ -82,6 +84,21 @@ static void judge_by_table(const struct making *making)
     else
         draw_table(&t, saved_library.image);
     compare_table(&t);
+    library = saved_library;
+    plain = saved_plain;
+}
+
+/* the same with shortfalls */
+static void judge_by_shortfalls(uint64_t (*make)(uint8_t *image))
+{
+    static struct side saved_library, saved_plain;
+    struct question q;
+    saved_library = library;
+    saved_plain = plain;
+    make(library.image);
+    memcpy(plain.image, library.image, sizeof plain.image);
+    draw_question(&q);
+    compare_shortfalls(&q);
     library = saved_library;
     plain = saved_plain;
 }
@@ -200,6 +217,21 @@ static void make_table(void)
     compare_table(&t);
 }
 
+static void ask_shortfalls(void)
+{
+    static uint64_t (*const makings[])(uint8_t * image) = {fill_to_limit, stray_image, damage_image, misplace_held};
+    struct question q;
+    uint64_t draw = below(100);
+    if (draw < 40)
+        judge_by_shortfalls(due_image);
+    else if (draw < 60)
+        judge_by_shortfalls(makings[below(sizeof makings / sizeof makings[0])]);
+    if (draw < 60)
+        return;
+    draw_question(&q);
+    compare_shortfalls(&q);
+}
+
 static void make_any(void)
 {
     struct request q;
@@ -227,10 +259,13 @@ static void run(void)
 {
     unsigned i;
     start();
-    for (i = 0; i < plan.calls; i++)
+    for (i = 0; i < plan.calls; i++) {
         make_any();
-    printf("seed %016llx: %lu calls and %lu tables so far, day %u, %lu differences\n", (unsigned long long)plan.seed,
-        calls, tables, crz_get_day(library.image), differences);
+        if (percent(6))
+            ask_shortfalls();
+    }
+    printf("seed %016llx: %lu calls, %lu tables and %lu shortfalls so far, day %u, %lu differences\n",
+        (unsigned long long)plan.seed, calls, tables, shortfalls, crz_get_day(library.image), differences);
 }
 
 int main(int argc, char **argv)
@@ -243,8 +278,8 @@ int main(int argc, char **argv)
         run();
     }
     show_counts(&reached, &unreached);
-    printf("%lu calls and %lu tables compared, %lu differences; %lu counts reached, %lu not\n", calls, tables,
-        differences, reached, unreached);
-    printf("%lu passed, %lu failed\n", calls + tables - differences + reached, differences + unreached);
+    printf("%lu calls, %lu tables and %lu shortfalls compared, %lu differences; %lu counts reached, %lu not\n", calls,
+        tables, shortfalls, differences, reached, unreached);
+    printf("%lu passed, %lu failed\n", calls + tables + shortfalls - differences + reached, differences + unreached);
     return differences + unreached != 0;
 }

@@ -1,6 +1,6 @@
 /*
  * What the parts of the long run share: random numbers, the plan of a run, calls, tables and images made at random, one
- * call or table on both sides, and the counts of what was reached.
+ * call, table or shortfalls on both sides, and the counts of what was reached.
  */
 #ifndef LONGRUN_H
 #define LONGRUN_H
@@ -82,6 +82,10 @@ uint64_t stray_image(uint8_t *image);
 /* gives an account so much that the total lies at its limit or one fen beside it */
 uint64_t fill_to_limit(uint8_t *image);
 
+/* makes lots of the states that a morning close works, due at any time, many of them near the deposit in price, and
+ * gives their parties just the money for them or nearly; it is then mostly morning */
+uint64_t due_image(uint8_t *image);
+
 /* puts what a lot holds elsewhere, the total still agreeing; leaves the image where no lot holds anything */
 uint64_t misplace_held(uint8_t *image);
 
@@ -100,8 +104,8 @@ struct side {
 
 extern struct side library, plain;
 
-/* calls and tables made on both sides, and how many of them went differently */
-extern unsigned long calls, tables, differences;
+/* calls, tables and shortfalls made on both sides, and how many of them went differently */
+extern unsigned long calls, tables, shortfalls, differences;
 extern int ends_at_first;
 
 uint32_t plain_fresh(uint8_t *image, size_t image_len);
@@ -109,6 +113,8 @@ uint32_t plain_call(
     uint8_t *image, size_t image_len, const uint8_t *call, size_t call_len, uint8_t *answer, size_t answer_len);
 uint32_t plain_table(
     uint8_t *image, size_t image_len, const uint8_t *calls, size_t calls_len, uint8_t *answers, size_t answers_len);
+uint32_t plain_shortfalls(const uint8_t *image, size_t image_len, uint8_t *figures, size_t figures_len);
+uint64_t plain_shortfall_of(const uint8_t *image, uint32_t account);
 
 /* a call, what it returned, and images and answer around it; of a made-up image, also the one that it was made from */
 struct made {
@@ -119,6 +125,14 @@ struct made {
 
 struct made compare(const struct request *q);
 void compare_table(const struct table *t);
+
+/* lengths of the buffers that shortfalls are asked for with */
+enum { FIGURES_MOST = CRZ_FIGURES_LENGTH + 4 * SPARE };
+struct question {
+    size_t image_len, figures_len;
+};
+
+void compare_shortfalls(const struct question *q);
 
 /* ── Counts (longrun_counts.c) ─────────────────────────────────────────────────────────────────── */
 
@@ -139,6 +153,26 @@ void count_damaged(const struct made *made);
 void count_stray(const struct made *made);
 void count_filled(const struct made *made);
 void count_misplaced(const struct made *made);
+
+/* a count for each mark, '+' for what can occur */
+void show_row(const char *name, const unsigned long *counts, const char *marks);
+
+/* ── Shortfalls (longrun_figures.c) ────────────────────────────────────────────────────────────── */
+
+void draw_question(struct question *q);
+
+/* an image, whether it is valid, and what was returned and written for it */
+struct made_figures {
+    const struct question *question;
+    const uint8_t *image, *figures;
+    uint32_t number;
+    int valid;
+};
+
+void count_figures(const struct made_figures *made);
+void show_figures(void);
+
+/* ── All counts (longrun_counts.c) ─────────────────────────────────────────────────────────────── */
 
 /* prints the counts; adds up what was reached, and what was not although it can be */
 void show_counts(unsigned long *reached, unsigned long *unreached);

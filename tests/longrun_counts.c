@@ -7,7 +7,7 @@
  * state that holds something and of lot 128, is frozen from its seller or from the account before, or is free. In
  * tables of calls every number but 1, every kind and every outcome; tables of no call up to one too many, each reason
  * to refuse one, answers of just enough bytes, of fewer and of more, refused calls before accepted ones, closes with
- * calls behind them.
+ * calls behind them. What shortfalls must reach is counted in longrun_figures.c.
  */
 #include "longrun.h"
 
@@ -539,8 +539,7 @@ static void show_cell(unsigned long count, int can_occur)
         printf("      .");
 }
 
-/* a count for each mark, '+' for what can occur */
-static void show_row(const char *name, const unsigned long *counts, const char *marks)
+void show_row(const char *name, const unsigned long *counts, const char *marks)
 {
     size_t i;
     printf("  %-20s", name);
@@ -684,6 +683,7 @@ void show_counts(unsigned long *reached, unsigned long *unreached)
     show_parts();
     show_misplaced();
     show_tables();
+    show_figures();
     printf("%-22s %6s %6s\n", "made-up images", "valid", "not");
     show_row("a field out of place", damaged, "++");
     show_row("valid, not reached", stray, "+-");

@@ -276,3 +276,119 @@ uint64_t fill_to_limit(uint8_t *image)
     crz_put_u64(image + CRZ_IMAGE_TOTAL, wanted);
     return 0;
 }
+
+/* ── Lots that are due ─────────────────────────────────────────────────────────────────────────── */
+
+/* price, basis, premium and weight; the full payment is a fen below the deposit, the deposit, a fen above, the least,
+ * the most, or any */
+struct terms {
+    uint32_t price;
+    int32_t basis, premium;
+    uint32_t weight;
+};
+
+static const struct terms due_terms[] = {{50000, -446, 0, 1009}, {45000, 0, 5000, 1000}, {35000, 461, 0, 1410},
+    {5, -4, 0, 1000}, {CRZ_PRICE_MOST, CRZ_BASIS_MOST, CRZ_PREMIUM_MOST, CRZ_WEIGHT_MOST}, {15000, 300, -200, 41237}};
+
+enum { DEAREST = 4, DUE_TERMS = sizeof due_terms / sizeof due_terms[0] };
+
+/* often today; a day beside it, some time ago, long ago or later */
+static uint16_t some_due(uint32_t day)
+{
+    uint64_t draw = below(100), past = between(1, day);
+    if (draw < 40)
+        return (uint16_t)day;
+    if (draw < 55)
+        return (uint16_t)(day + 1);
+    if (draw < 65)
+        return (uint16_t)(day + CRZ_DAYS_MOST);
+    return (uint16_t)(draw < 80 && day > 1 ? day - 1 : past);
+}
+
+/* the receipt's owner, and with a penalty due its terms, follow from the state */
+static void put_due_lot(
+    uint8_t *image, uint32_t lot, uint64_t state, const uint64_t *parties, const struct terms *terms)
+{
+    uint8_t *record = image + crz_receipt_offset(lot);
+    int bought = state == CRZ_STATE_SETTLED || state == CRZ_STATE_FIRST_PAID, penalty = state == CRZ_STATE_PENALTY_DUE;
+    memset(record, 0, CRZ_RECEIPT_LENGTH);
+    record[CRZ_RECEIPT_OWNER] = (uint8_t)parties[bought];
+    record[CRZ_RECEIPT_STATE] = (uint8_t)state;
+    record[CRZ_RECEIPT_SELLER] = (uint8_t)parties[0];
+    record[CRZ_RECEIPT_BUYER] = (uint8_t)parties[1];
+    record[CRZ_RECEIPT_CONTRACT] = (uint8_t)(penalty ? 0 : 1);
+    crz_put_u16(record + CRZ_RECEIPT_DUE, some_due(crz_get_day(image)));
+    crz_put_u32(record + CRZ_RECEIPT_WEIGHT, terms->weight);
+    crz_put_i32(record + CRZ_RECEIPT_BASIS, penalty ? 0 : terms->basis);
+    crz_put_u32(record + CRZ_RECEIPT_PRICE, penalty ? 0 : terms->price);
+    crz_put_i32(record + CRZ_RECEIPT_PREMIUM, terms->premium);
+}
+
+/* seller and buyer; the last account too, though few plans have it */
+static void draw_parties(uint64_t *parties)
+{
+    uint64_t seller = percent(15) ? CRZ_ACCOUNT_COUNT : some_account(), buyer = some_account();
+    if (seller == buyer)
+        buyer = seller == CRZ_ACCOUNT_COUNT ? 1 : CRZ_ACCOUNT_COUNT;
+    parties[0] = seller;
+    parties[1] = buyer;
+}
+
+/* few lots, the first and the last more often than others */
+static void put_due_lots(uint8_t *image)
+{
+    uint64_t parties[2], left = between(1, 12);
+    while (left-- > 0) {
+        uint64_t lot = percent(20) ? 1 + (CRZ_RECEIPT_COUNT - 1) * below(2) : between(1, CRZ_RECEIPT_COUNT);
+        uint64_t state = percent(85) ? between(CRZ_STATE_STRUCK, CRZ_STATE_LODGED) : CRZ_STATE_SETTLED + below(2);
+        const struct terms *terms = &due_terms[below(DUE_TERMS)];
+        draw_parties(parties);
+        put_due_lot(image, (uint32_t)lot, percent(25) ? CRZ_STATE_PENALTY_DUE : state, parties, terms);
+    }
+}
+
+/* every lot between two accounts and today, at the most that it can cost */
+static void put_all_due(uint8_t *image)
+{
+    uint64_t state = percent(30) ? CRZ_STATE_PENALTY_DUE : between(CRZ_STATE_STRUCK, CRZ_STATE_LODGED), parties[2];
+    uint32_t lot;
+    draw_parties(parties);
+    for (lot = 1; lot <= CRZ_RECEIPT_COUNT; lot++) {
+        put_due_lot(image, lot, state, parties, &due_terms[DEAREST]);
+        crz_put_u16(image + crz_receipt_offset(lot) + CRZ_RECEIPT_DUE, (uint16_t)crz_get_day(image));
+    }
+}
+
+/* free money of an account that is asked for this sum: just that, a fen beside it, nothing, or as it was */
+static uint64_t some_free(uint64_t wanted, uint64_t otherwise)
+{
+    uint64_t draw = below(6);
+    if (draw < 3)
+        return wanted - 1 + draw;
+    return draw == 3 ? 0 : otherwise;
+}
+
+static void fit_free(uint8_t *image)
+{
+    uint32_t account;
+    for (account = 1; account <= CRZ_ACCOUNT_COUNT; account++) {
+        uint8_t *free = account_in(image, account) + CRZ_ACCOUNT_FREE;
+        uint64_t had = crz_get_u64(free), wanted;
+        crz_put_u64(free, 0);
+        wanted = plain_shortfall_of(image, account);
+        crz_put_u64(free, wanted == 0 ? had : some_free(wanted, had));
+    }
+}
+
+uint64_t due_image(uint8_t *image)
+{
+    if (percent(75))
+        image[CRZ_IMAGE_PHASE] = CRZ_PHASE_MORNING;
+    if (percent(4))
+        put_all_due(image);
+    else
+        put_due_lots(image);
+    fit_free(image);
+    rebook(image);
+    return 0;
+}

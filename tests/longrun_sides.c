@@ -1,4 +1,4 @@
-/* One call, or one table of calls, on both sides: the library and plain C. */
+/* One call, one table of calls or one question for shortfalls, on both sides: the library and plain C. */
 #include "longrun.h"
 #include "lent.h"
 
@@ -6,11 +6,13 @@
 #include <stdlib.h>
 
 struct side library, plain;
-unsigned long calls, tables, differences;
+unsigned long calls, tables, shortfalls, differences;
 int ends_at_first;
 
 /* answers of tables */
 static uint8_t library_answers[ANSWERS_MOST], plain_answers[ANSWERS_MOST];
+
+static uint8_t library_figures[FIGURES_MOST], plain_figures[FIGURES_MOST];
 
 /* ── Differences ───────────────────────────────────────────────────────────────────────────────── */
 
@@ -29,14 +31,14 @@ static void show_bytes(const uint8_t *bytes, size_t count)
         printf(" %02x", bytes[i]);
 }
 
-/* a call or a table; the first five are printed, each with how far images and answers agree */
+/* a call, a table or the library's figures; the first five are printed, each with how far images and answers agree */
 static void show_difference(
     const char *what, const uint8_t *record, size_t record_len, const uint32_t *numbers, size_t answers_agree)
 {
     if (++differences > 5)
         return;
-    printf("seed %llx, call %lu: library %u, plain %u; %s of %lu bytes:", (unsigned long long)plan.seed, calls + tables,
-        (unsigned)numbers[0], (unsigned)numbers[1], what, (unsigned long)record_len);
+    printf("seed %llx, call %lu: library %u, plain %u; %s of %lu bytes:", (unsigned long long)plan.seed,
+        calls + tables + shortfalls, (unsigned)numbers[0], (unsigned)numbers[1], what, (unsigned long)record_len);
     show_bytes(record, record_len);
     printf("; images agree up to %lu, answers up to %lu\n",
         (unsigned long)agree_up_to(library.image, plain.image, sizeof library.image), (unsigned long)answers_agree);
@@ -168,4 +170,64 @@ void compare_table(const struct table *t)
         plain = library;
     }
     count_table(&made);
+}
+
+/* ── Shortfalls ────────────────────────────────────────────────────────────────────────────────── */
+
+/* on buffers of its own, the image only read; *kept becomes 0 where a byte of it or around them has changed */
+static uint32_t ask_library(const struct question *q, int *kept)
+{
+    static struct lent image, figures;
+    uint8_t *image_at, *figures_at;
+    uint32_t number;
+    lend_bytes(&image, some_place(), library.image, q->image_len);
+    lend_bytes(&figures, some_place(), library_figures, q->figures_len);
+    lend_for_reading(&image);
+    image_at = address(&image);
+    figures_at = address(&figures);
+    number = crz_shortfalls(image_at, image.len, figures_at, figures.len);
+    *kept = lent_kept(&image) && lent_kept(&figures) && memcmp(image.bytes, library.image, image.len) == 0;
+    memcpy(library_figures, figures.bytes, figures.len);
+    return number;
+}
+
+/* figures of accounts that a count for that account alone does not make */
+static unsigned other_figures(void)
+{
+    uint32_t account;
+    unsigned other = 0;
+    for (account = 1; account <= CRZ_ACCOUNT_COUNT; account++)
+        other += crz_get_figure(library_figures, account) != plain_shortfall_of(library.image, account);
+    return other;
+}
+
+/* bytes past the figures, and all bytes where there are none, are as they were; plain C has its image still */
+static int same_figures(uint8_t fill, uint32_t number)
+{
+    size_t i;
+    for (i = number == CRZ_NUMBER_ACCEPTED ? CRZ_FIGURES_LENGTH : 0; i < sizeof library_figures; i++)
+        if (library_figures[i] != fill)
+            return 0;
+    return memcmp(library_figures, plain_figures, sizeof library_figures) == 0
+           && memcmp(library.image, plain.image, sizeof library.image) == 0
+           && (number != CRZ_NUMBER_ACCEPTED || other_figures() == 0);
+}
+
+void compare_shortfalls(const struct question *q)
+{
+    struct made_figures made = {q, library.image, library_figures, 0, is_valid(library.image, q->image_len)};
+    uint8_t fill = (uint8_t)random_word();
+    uint32_t numbers[2];
+    int kept;
+    memset(library_figures, fill, sizeof library_figures);
+    memset(plain_figures, fill, sizeof plain_figures);
+    numbers[0] = made.number = ask_library(q, &kept);
+    numbers[1] = plain_shortfalls(plain.image, q->image_len, plain_figures, q->figures_len);
+    shortfalls++;
+    if (numbers[0] != numbers[1] || !kept || !same_figures(fill, made.number)) {
+        show_difference("figures", library_figures, q->figures_len, numbers,
+            agree_up_to(library_figures, plain_figures, sizeof library_figures));
+        plain = library;
+    }
+    count_figures(&made);
 }

@@ -1,7 +1,7 @@
 /*
  * crz_records.h and the constants of crz.h against the library: each call record by its bytes, every range at its ends
- * and one beyond them, payments, tables of calls, and what is read back from answers and images. C and C++.
- * The last line is 'N passed, M failed'.
+ * and one beyond them, payments, tables of calls, figures of shortfalls, and what is read back from answers and images.
+ * C and C++. The last line is 'N passed, M failed'.
  */
 #include "../include/crz_records.h"
 
@@ -499,6 +499,50 @@ static void tables(void)
     expect(entry.lot == 128 && entry.outcome == CRZ_OUTCOME_LISTED && entry.from == 96, "the third accepted");
 }
 
+static uint8_t shortfalls[CRZ_FIGURES_LENGTH];
+
+static uint32_t ask(void)
+{
+    return crz_shortfalls(image, sizeof image, shortfalls, sizeof shortfalls);
+}
+
+/* each figure by its place, and none of a number that is no account */
+static void figure_places(void)
+{
+    uint32_t account, other = 0;
+    for (account = 1; account <= CRZ_ACCOUNT_COUNT; account++) {
+        memset(shortfalls, 0, sizeof shortfalls);
+        crz_put_u64(shortfalls + CRZ_FIGURE_LENGTH * (account - 1), UINT64_C(0x0102030405060708) + account);
+        other += crz_get_figure(shortfalls, account) != UINT64_C(0x0102030405060708) + account;
+        other += crz_get_figure(shortfalls, account % CRZ_ACCOUNT_COUNT + 1) != 0;
+    }
+    expect(other == 0, "figures by account");
+    memset(shortfalls, 0xff, sizeof shortfalls);
+    expect(crz_get_figure(shortfalls, 0) == 0 && crz_get_figure(shortfalls, CRZ_ACCOUNT_COUNT + 1) == 0, "no account");
+    expect(crz_get_figure(shortfalls, UINT32_MAX) == 0, "no account at all");
+    expect(CRZ_FIGURES_LENGTH == CRZ_ACCOUNT_COUNT * CRZ_FIGURE_LENGTH, "the figures' length");
+}
+
+/* a lot that is struck for today; its buyer has the money for it, and then has less */
+static void figures(void)
+{
+    figure_places();
+    offer(0, 300);
+    crz_put_limit_bid(call, 2, 9, 15000);
+    expect_kept(0, "bid");
+    crz_put_quote(call, 2, 15000);
+    expect_kept(0, "struck");
+    expect(ask() == CRZ_NUMBER_ACCEPTED && crz_get_figure(shortfalls, 2) == 0, "enough money");
+    crz_put_take_out(call, 2, crz_get_account(image, 2).free);
+    expect(make() == CRZ_NUMBER_ACCEPTED && ask() == CRZ_NUMBER_ACCEPTED, "taken out");
+    expect(crz_get_figure(shortfalls, 2) == 63092610 - CRZ_DEPOSIT && crz_get_figure(shortfalls, 1) == 0, "short");
+    crz_put_pay_in(call, 2, crz_get_figure(shortfalls, 2));
+    expect(make() == CRZ_NUMBER_ACCEPTED && ask() == CRZ_NUMBER_ACCEPTED, "paid in");
+    expect(crz_get_figure(shortfalls, 2) == 0, "no longer short");
+    expect(crz_shortfalls(image, sizeof image, shortfalls, CRZ_FIGURES_LENGTH - 1) == CRZ_NUMBER_SHORT_ANSWER, "1");
+    expect(crz_shortfalls(image, sizeof image - 1, shortfalls, sizeof shortfalls) == CRZ_NUMBER_BAD_IMAGE, "2");
+}
+
 int main(void)
 {
     char version[32];
@@ -526,6 +570,7 @@ int main(void)
     parts();
     premiums();
     tables();
+    figures();
     printf("%lu passed, %lu failed\n", passed, failed);
     return failed != 0;
 }

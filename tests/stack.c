@@ -1,8 +1,9 @@
 /*
- * The stack that the entries take, over the calls and tables of the vectors: each is made on a thread whose stack was
- * painted before, and what is painted no more was used. A call is also made in a full table of its like, on a copy of
- * the image. All of it is held to the bound that crz.h states. Usage: stack LIST. The last line is 'N passed, M
- * failed'; a call or a table that stays below the bound counts once.
+ * The stack that the entries take, over the calls, tables and shortfalls of the vectors: each is made on a thread whose
+ * stack was painted before, and what is painted no more was used. A call is also made in a full table of its like, on a
+ * copy of the image, and behind one that is accepted the shortfalls are asked for. All of it is held to the bound that
+ * crz.h states. Usage: stack LIST. The last line is 'N passed, M failed'; a call, a table or shortfalls that stay below
+ * the bound count once.
  */
 #define _XOPEN_SOURCE 700
 
@@ -45,6 +46,12 @@ static void *make_table(void *none)
     return none;
 }
 
+static void *make_shortfalls(void *none)
+{
+    number = crz_shortfalls(image, step->image_len, answer, step->answer_len);
+    return none;
+}
+
 /* the record of the step as often as a table can have it, on a copy of the image */
 static void *make_full_table(void *none)
 {
@@ -82,10 +89,13 @@ static int within_bound(void *(*work)(void *), enum step_kind kind, uint32_t wan
     return number == wanted && taken < BOUND;
 }
 
+/* an accepted call has an answer that is long enough for the figures */
 static int call_within_bound(void)
 {
     int full = step->call_len != CRZ_CALL_LENGTH || within_bound(make_full_table, STEP_TABLE, CRZ_NUMBER_ACCEPTED);
-    return within_bound(make_call, STEP_CALL, step->number) && full;
+    int made = within_bound(make_call, STEP_CALL, step->number);
+    int asked = step->number != CRZ_NUMBER_ACCEPTED || within_bound(make_shortfalls, STEP_SHORTFALLS, step->number);
+    return full && made && asked;
 }
 
 static int make(const struct vector_step *next)
@@ -96,6 +106,7 @@ static int make(const struct vector_step *next)
     case STEP_PATCH: patch_image(&step->patch, image); return 1;
     case STEP_LENGTH: memset(image + step->image_len, 0, sizeof image - step->image_len); return 1;
     case STEP_TABLE: return within_bound(make_table, STEP_TABLE, step->number);
+    case STEP_SHORTFALLS: return within_bound(make_shortfalls, STEP_SHORTFALLS, step->number);
     default: return call_within_bound();
     }
 }
@@ -114,9 +125,10 @@ int main(int argc, char **argv)
     used(nothing); /* the first thread of a program takes more */
     own = used(nothing);
     walk_vectors(argv[1], "", make, &tally);
-    printf("bytes of stack at most: %lu for a fresh image, %lu for a call, %lu for a table\n",
-        (unsigned long)most[STEP_FRESH], (unsigned long)most[STEP_CALL], (unsigned long)most[STEP_TABLE]);
-    if (most[STEP_CALL] == 0 || most[STEP_TABLE] == 0)
+    printf("bytes of stack at most: %lu for a fresh image, %lu for a call, %lu for a table, %lu for shortfalls\n",
+        (unsigned long)most[STEP_FRESH], (unsigned long)most[STEP_CALL], (unsigned long)most[STEP_TABLE],
+        (unsigned long)most[STEP_SHORTFALLS]);
+    if (most[STEP_CALL] == 0 || most[STEP_TABLE] == 0 || most[STEP_SHORTFALLS] == 0)
         tally.failed++;
     return show_tally(&tally);
 }

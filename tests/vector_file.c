@@ -3,11 +3,11 @@
 #include <stdio.h>
 #include <string.h>
 
-#include "../include/crz.h"
+#include "../include/crz_records.h"
 
 enum { LINE_MOST = 1 << 18, NAME_MOST = 256 };
 
-static const char letters[STEP_KINDS + 1] = "ZPLCT";
+static const char letters[STEP_KINDS + 1] = "ZPLCTS";
 
 /* a file while it is read */
 struct reader {
@@ -47,6 +47,20 @@ static int take_number(const char **text, size_t *number)
     for (; **text >= '0' && **text <= '9' && *number <= VECTOR_MOST; ++*text, digits++)
         *number = *number * 10 + (size_t)(**text - '0');
     return digits > 0 && *number <= VECTOR_MOST;
+}
+
+/* a decimal number that 64 bits hold */
+static int take_figure(const char **text, uint64_t *figure)
+{
+    size_t digits = 0;
+    *figure = 0;
+    for (; **text >= '0' && **text <= '9'; ++*text, digits++) {
+        uint64_t digit = (uint64_t)(**text - '0');
+        if (*figure > (UINT64_MAX - digit) / 10)
+            return 0;
+        *figure = *figure * 10 + digit;
+    }
+    return digits > 0;
 }
 
 static int hex_digit(char c)
@@ -156,6 +170,37 @@ static int read_change(void)
     return (take(&text, "same") || take_patch(&text, &step.patch, step.image_len)) && take_end(&text);
 }
 
+/* the figure that has this place in the buffer, counted from 0 */
+static int place_figure(const char **text, size_t place)
+{
+    uint64_t figure;
+    if (step.answer_len < (place + 1) * CRZ_FIGURE_LENGTH || (place > 0 && !take(text, " "))
+        || !take_figure(text, &figure))
+        return 0;
+    crz_put_u64(step.answer + place * CRZ_FIGURE_LENGTH, figure);
+    return 1;
+}
+
+static int read_figures(void)
+{
+    const char *text = read_behind("F ");
+    size_t i = 0;
+    memset(step.answer, VECTOR_FILL, step.answer_len);
+    if (take(&text, "-"))
+        return take_end(&text);
+    while (i < CRZ_ACCOUNT_COUNT && place_figure(&text, i))
+        i++;
+    return i == CRZ_ACCOUNT_COUNT && take_end(&text);
+}
+
+/* shortfalls have no record */
+static int read_shortfalls(const char *text)
+{
+    step.kind = STEP_SHORTFALLS;
+    step.call_len = 0;
+    return take_number(&text, &step.answer_len) && take_end(&text) && read_number() && read_figures();
+}
+
 /* a call or a table */
 static int read_call(const char *text)
 {
@@ -186,6 +231,8 @@ static int read_step(void)
         step.kind = STEP_LENGTH;
         return take_number(&text, &step.image_len) && take_end(&text);
     }
+    if (take(&text, "S "))
+        return read_shortfalls(text);
     step.kind = reader.line[0] == 'T' ? STEP_TABLE : STEP_CALL;
     return take(&text, step.kind == STEP_TABLE ? "T " : "C ") && read_call(text);
 }
@@ -221,7 +268,7 @@ void patch_image(const struct patch *patch, uint8_t *image)
 static void make_step(step_test *test, struct tally *tally)
 {
     int good = test(&step);
-    if (good && (step.kind == STEP_CALL || step.kind == STEP_TABLE))
+    if (good && (step.kind == STEP_CALL || step.kind == STEP_TABLE || step.kind == STEP_SHORTFALLS))
         tally->passed++;
     if (!good && tally->failed++ < 5)
         printf("%s:%lu: the step that ends here differs\n", reader.path, reader.line_number);
@@ -262,7 +309,7 @@ static void walk_file(const char *path, const unsigned long *wanted, step_test *
         reader.fault = "the file cannot be read";
     fclose(reader.file);
     hold_file(wanted, &own);
-    printf("%s: %lu calls and tables agree, %lu differ\n", path, own.passed, own.failed);
+    printf("%s: %lu calls, tables and shortfalls agree, %lu differ\n", path, own.passed, own.failed);
     tally->passed += own.passed;
     tally->failed += own.failed;
 }
@@ -273,8 +320,8 @@ static void walk_file(const char *path, const unsigned long *wanted, step_test *
 static int read_entry(const char *line, char *name, unsigned long *counts)
 {
     char more;
-    int found = sscanf(
-        line, "%255s %lu %lu %lu %lu %lu %c", name, &counts[0], &counts[1], &counts[2], &counts[3], &counts[4], &more);
+    int found = sscanf(line, "%255s %lu %lu %lu %lu %lu %lu %c", name, &counts[0], &counts[1], &counts[2], &counts[3],
+        &counts[4], &counts[5], &more);
     return found == 1 + STEP_KINDS;
 }
 

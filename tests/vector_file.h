@@ -12,6 +12,8 @@
  *   I o:hex ..   the bytes of the image that change, 'same' where none does
  *   T hex n      a table of calls, '-' for none, and the length of its answers; behind it the same three lines, with a
  *                word for each call in A
+ *   S n          shortfalls, and the length of the figures; behind it R and
+ *   F n n ..     the figures, one for each account, '-' where nothing is written
  *
  * A list beside the files says how many lines of each kind a file has. A line that is none of these, stands in another
  * place or ends too early is a fault of the file, and so is a count that differs from the list's: a test that reads
@@ -25,7 +27,7 @@
 
 enum { VECTOR_FILL = 0xa5, VECTOR_MOST = 1 << 16 }; /* bytes of a buffer */
 
-enum step_kind { STEP_FRESH, STEP_PATCH, STEP_LENGTH, STEP_CALL, STEP_TABLE, STEP_KINDS };
+enum step_kind { STEP_FRESH, STEP_PATCH, STEP_LENGTH, STEP_CALL, STEP_TABLE, STEP_SHORTFALLS, STEP_KINDS };
 
 /* bytes with their places in the image */
 struct patch {
@@ -43,7 +45,7 @@ struct vector_step {
     uint8_t call[VECTOR_MOST]; /* one record, or those of a table */
     size_t call_len, answer_len;
     uint32_t number;
-    uint8_t answer[VECTOR_MOST]; /* the whole buffer, as the call or the table leaves it */
+    uint8_t answer[VECTOR_MOST]; /* the whole buffer, of answers or of figures, as it is left */
 };
 
 void patch_image(const struct patch *patch, uint8_t *image);
@@ -55,8 +57,8 @@ struct tally {
 /* Makes a step; whether all goes as the step says. */
 typedef int step_test(const struct vector_step *step);
 
-/* Walks through the files of the list whose names begin so. A call counts once and a table once; a step of another kind
- * or a file counts where it fails. */
+/* Walks through the files of the list whose names begin so. A call, a table and shortfalls count once each; a step of
+ * another kind or a file counts where it fails. */
 void walk_vectors(const char *list, const char *beginning, step_test *test, struct tally *tally);
 
 /* The line that the gate reads, and the status of the program. */

@@ -1,6 +1,7 @@
 /*
- * The vectors through the C boundary: number, image and answers of every call and table, the buffers standing between
- * painted bytes, ending at a wall and starting at one. Usage: vectors LIST. The last line is 'N passed, M failed'.
+ * The vectors through the C boundary: number, image and answers of every call and table, number and figures of all
+ * shortfalls, the buffers standing between painted bytes, ending at a wall and starting at one. Usage: vectors LIST.
+ * The last line is 'N passed, M failed'.
  */
 #include "../include/crz.h"
 #include "lent.h"
@@ -53,12 +54,24 @@ static int made_agrees(const struct vector_step *step)
            && lent_kept(&answer);
 }
 
+/* the image is only read */
+static int shortfalls_agree(const struct vector_step *step)
+{
+    uint32_t number;
+    memcpy(expected, image.bytes, image.len);
+    lend_filled(&answer, place, VECTOR_FILL, step->answer_len);
+    number = crz_shortfalls(image.bytes, image.len, answer.bytes, answer.len);
+    return number == step->number && memcmp(image.bytes, expected, image.len) == 0
+           && memcmp(answer.bytes, step->answer, answer.len) == 0 && lent_kept(&image) && lent_kept(&answer);
+}
+
 static int agrees(const struct vector_step *step)
 {
     switch (step->kind) {
     case STEP_FRESH: return fresh(step);
     case STEP_PATCH: patch_image(&step->patch, image.bytes); return 1;
     case STEP_LENGTH: set_length(step->image_len); return 1;
+    case STEP_SHORTFALLS: return shortfalls_agree(step);
     default: return made_agrees(step);
     }
 }

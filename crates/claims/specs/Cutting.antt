@@ -17,7 +17,7 @@ use Rattle.rules.specs.View.{recordOfReceipt}
 use Rattle.image.specs.Image.{validImage, decode}
 use Rattle.answers.specs.Buffers.{callIn, callRecords, answerLength}
 use Rattle.crz.specs.Returned.{callEntry, Returned}
-use Rattle.claims.specs.Demand.{Handed, MadeFrom, noCalls, next, nextTable, replyOf}
+use Rattle.claims.specs.Demand.{Handed, MadeFrom, noCalls, next, nextTable, nextFigures, replyOf}
 use Rattle.claims.specs.History.{Reply, refusedWith, acceptedWith}
 
 -- ── What calls pay of a rest ───────────────────────────────────────────────────────────────────
@@ -69,6 +69,7 @@ unfoldable pub follow : (k : ℕ) {start : List ℕ} {list : List Handed} {image
 follow k noCalls = record { over = false; parts = 0 }
 follow k (next m call answer number image′ answer′ R) = afterCall k image′ (replyOf number answer′) (follow k m)
 follow k (nextTable {image = image} m calls answers number image′ answers′ R) = afterTable k number image calls answers (follow k m)
+follow k (nextFigures m figures number image′ figures′ R) = follow k m
 
 -- Its confirmed sum: while it goes on the image's, and full payment once it is over, because nothing but the confirmation that brings it
 -- to full ends it (`OverAtFull`).

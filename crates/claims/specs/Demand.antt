@@ -1,5 +1,5 @@
--- Demand 3, the third of what the library owes its desk (README): after every list of calls on a fresh image, refused ones and tables of calls
--- among them, with buffers of any length and content, four sentences hold by the accepted calls and their answers alone. 01 History 8 to 11
+-- Demand 3, the third of what the library owes its desk (README): after every list of calls on a fresh image, refused ones, tables of calls
+-- and shortfalls among them, with buffers of any length and content, four sentences hold by the accepted calls and their answers alone. 01 History 8 to 11
 -- says what their words mean. The history is fed from the call records and the answers as they were on return; nothing comes from the
 -- image. Free, frozen and owner are those of the image after the list. The proof is in Laws/; nothing of it is needed to read this page.
 -- Assumes nothing.
@@ -16,6 +16,7 @@ use Rattle.rules.specs.View.{freeOf, frozenOf, receiptOfNumber}
 use Rattle.image.specs.Image.{validImage, decode, encode}
 use Rattle.answers.specs.Buffers.{callIn, callRecords, answerLength, answerNumberPlace, entriesIn}
 use Rattle.crz.specs.CallTable.{TableReturned}
+use Rattle.crz.specs.Figures.{ShortfallsReturned}
 use Rattle.crz.specs.Returned.{Returned}
 use Rattle.claims.specs.History.{Reply, refusedWith, acceptedWith, history, heldOver, Exact, belongs, EachStrikeOwnAct}
 
@@ -27,14 +28,16 @@ pub record Exchange : Type 0 where
   pub number : ℕ
   pub answer : List ℕ
 
--- A call by itself, or a table of calls (02 5/12): its records, the number that the table returned, and all its answers on return. An entry
--- that is added later has a case of its own here.
+-- A call by itself; a table of calls (02 5/12), with its records, the number that the table returned, and all its answers on return; or
+-- shortfalls that were asked for (02 6/12), with the number returned and the figures on return. An entry that is added later has a case of its
+-- own here.
 pub data Handed : Type 0 where
   oneCall : Exchange → Handed
   callTable : (calls : List ℕ) (number : ℕ) (answers : List ℕ) → Handed
+  shortfallsAsked : (number : ℕ) (figures : List ℕ) → Handed
 
--- What is handed over from an image on, each on the image that the one before it left. `Returned` and `TableReturned` are what the contracts
--- of `crz_call` and `crz_table` promise, of every buffer.
+-- What is handed over from an image on, each on the image that the one before it left. `Returned`, `TableReturned` and `ShortfallsReturned`
+-- are what the contracts of `crz_call`, `crz_table` and `crz_shortfalls` promise, of every buffer.
 pub data MadeFrom (start : List ℕ) : List Handed → List ℕ → Type 0 where
   noCalls : MadeFrom start [] start
   next : {list : List Handed} {image : List ℕ} → MadeFrom start list image → (call answer : List ℕ) (number : ℕ) (image′ answer′ : List ℕ)
@@ -42,6 +45,8 @@ pub data MadeFrom (start : List ℕ) : List Handed → List ℕ → Type 0 where
       → MadeFrom start (oneCall (record { call = call; number = number; answer = answer′ }) ∷ list) image′
   nextTable : {list : List Handed} {image : List ℕ} → MadeFrom start list image → (calls answers : List ℕ) (number : ℕ) (image′ answers′ : List ℕ)
       → TableReturned image calls answers number image′ answers′ → MadeFrom start (callTable calls number answers′ ∷ list) image′
+  nextFigures : {list : List Handed} {image : List ℕ} → MadeFrom start list image → (figures : List ℕ) (number : ℕ) (image′ figures′ : List ℕ)
+      → ShortfallsReturned image figures number image′ figures′ → MadeFrom start (shortfallsAsked number figures′ ∷ list) image′
 
 -- ── The calls of a list, one by one ────────────────────────────────────────────────────────────
 
@@ -52,11 +57,12 @@ callsOfTable (call ∷ calls) answers before =
     let own : List ℕ = take answerLength answers in
     callsOfTable calls (drop answerLength answers) (record { call = call; number = getD own answerNumberPlace 0; answer = own } ∷ before)
 
--- one that is handed over more; a table that was refused has no calls, whatever its answers held before
+-- one that is handed over more; a table that was refused has no calls, whatever its answers held before, and to ask for shortfalls is none
 abbrev pub withCalls : Handed → List Exchange → List Exchange
 withCalls (oneCall x) before = x ∷ before
 withCalls (callTable calls zero answers) before = callsOfTable (callRecords calls) answers before
 withCalls (callTable calls (suc n) answers) before = before
+withCalls (shortfallsAsked number figures) before = before
 
 -- all of them
 unfoldable pub callsOf : List Handed → List Exchange

@@ -11,4 +11,6 @@ pub mod Quotes
 pub mod Premiums
 pub mod Cutting
 pub mod FrozenSums
+pub mod Covered
+pub mod Shortfalls
 pub mod RoundTrips

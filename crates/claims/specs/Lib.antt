@@ -14,4 +14,6 @@ pub mod PremiumTrades
 pub mod Cutting
 pub mod CutTrades
 pub mod FrozenSums
+pub mod Shortfalls
+pub mod ShortfallTrades
 pub mod Laws

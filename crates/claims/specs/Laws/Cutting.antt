@@ -40,11 +40,12 @@ use Rattle.image.specs.Image.{validImage, decode, encode}
 use Rattle.answers.specs.Buffers.{callIn, callRecords, answerLength}
 use Rattle.crz.specs.CallTable.{inTurn}
 use Rattle.crz.specs.Laws.CallTable.{table-taken, table-left}
+use Rattle.crz.specs.Laws.Figures.{image-left}
 use Rattle.crz.specs.Laws.Returned.{Left, refused, accepted, returned-case}
 use Rattle.crz.specs.Laws.Valid.{good-image, Zero}
 use Rattle.crz.specs.Returned.{recordNumber, Return, callEntry, Returned}
 use Rattle.claims.specs.Cutting.{lotIn, partIn, partsIn, Followed, afterCall, afterCalls, follow, PartsBySum, CutAlike, Proceeds, goesOn, isOver, OverAtFull}
-use Rattle.claims.specs.Demand.{Handed, MadeFrom, noCalls, next, nextTable, replyOf}
+use Rattle.claims.specs.Demand.{Handed, MadeFrom, noCalls, next, nextTable, nextFigures, replyOf}
 use Rattle.claims.specs.History.{acceptedWith}
 use Rattle.claims.specs.Laws.Calls.{zero-for, new-zone, read-back}
 use Rattle.claims.specs.Laws.Demand.{stays-valid}
@@ -285,6 +286,8 @@ reached k {start} (nextTable {image = image} m calls answers zero image′ answe
     (calls-reached k (callRecords calls) image answers (follow k m) (reached k m s))
 reached k {start} (nextTable {image = image} m calls answers (suc n) image′ answers′ R) s =
     subst (λ (i : List ℕ). Reached k start i (follow k m)) (sym (table-left image calls answers n image′ answers′ R .1)) (reached k m s)
+reached k {start} (nextFigures {image = image} m figures number image′ figures′ R) s =
+    subst (λ (i : List ℕ). Reached k start i (follow k m)) (sym (image-left image figures number image′ figures′ R)) (reached k m s)
 
 -- lot k of a valid image in state 6
 part-paid-in : (image : List ℕ) (k : ℕ) → validImage image ≡ true → lotIn image k .state ≡ 6 → PartPaid (lotIn image k)

@@ -26,10 +26,11 @@ use Rattle.answers.specs.Buffers.{callLength, callIn, callCount, callRecords, a
 use Rattle.answers.specs.Laws.Answer.{padded-long, accepted-long}
 use Rattle.crz.specs.CallTable.{inTurn, tableFits, tableEntry}
 use Rattle.crz.specs.Laws.CallTable.{fitting, Taken, table-taken, table-left}
+use Rattle.crz.specs.Laws.Figures.{image-left}
 use Rattle.crz.specs.Laws.Numbers.{refused-by}
 use Rattle.crz.specs.Laws.Returned.{Left, refused, accepted, returned-case}
 use Rattle.crz.specs.Returned.{afterBufferNumbers, callNumber, recordNumber, refusal, Return, returnBy, callEntry, Returned}
-use Rattle.claims.specs.Demand.{Exchange, Handed, oneCall, MadeFrom, noCalls, next, nextTable, callsOfTable, callsOf}
+use Rattle.claims.specs.Demand.{Exchange, Handed, oneCall, MadeFrom, noCalls, next, nextTable, nextFigures, callsOfTable, callsOf}
 use Rattle.claims.specs.Laws.Calls.{zero-for, kept}
 use Rattle.claims.specs.Singly.{exchangesOf, TableAsCalls, AnswersLong, SameSingly, RestKept, RefusedAlone, EmptyTable, BadImage}
 
@@ -175,6 +176,8 @@ one-by-one {start} (nextTable {list} {image} m calls answers zero image′ answe
     rw (T .image-is, T .answers-are) (calls-made (callRecords calls) answers (table-room image calls answers image′ answers′ T) (one-by-one m))
 one-by-one {start} (nextTable {list} {image} m calls answers (suc n) image′ answers′ R) =
     subst (λ (i : List ℕ). OneByOne start (callsOf list) i) (sym (table-left image calls answers n image′ answers′ R .1)) (one-by-one m)
+one-by-one {start} (nextFigures {list} {image} m figures number image′ figures′ R) =
+    subst (λ (i : List ℕ). OneByOne start (callsOf list) i) (sym (image-left image figures number image′ figures′ R)) (one-by-one m)
 
 -- ── The same singly ────────────────────────────────────────────────────────────────────────────
 

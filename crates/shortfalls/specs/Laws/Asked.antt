@@ -5,7 +5,7 @@ use mathlib.Core.List.{List, [], _∷_, map}
 use mathlib.Core.Path.{_≡_, refl, sym, ap, _∙_}
 use Prim.Native.Nat.{ℕ, zero, suc, _+_, _-_, _*_, _^_, _≤_, _<_}
 use native.Mathlib.Omega.{arith}
-use borrow.Author.Tests.{eqb-true, ltb-true, lt-leb}
+use borrow.Author.Tests.{eqb-true, ltb-true, ltb-false}
 use lib.Dec.{eqb, leb, ltb}
 use lib.ListN.{length, getD, drop, length-drop}
 use Rattle.units.specs.declared.Fen.{Fen}
@@ -35,13 +35,24 @@ use Rattle.shortfalls.specs.Walk.{askedOf, validAsked, askedSums}
 
 -- ── One lot ────────────────────────────────────────────────────────────────────────────────────
 
-pub passes-le : (n m : ℕ) → passesBy n m ≤ n
+-- by whether it passes
+passes : (P : ℕ → Type 0) (n m : ℕ) → (m < n → P (n - m)) → (n ≤ m → P 0) → P (passesBy n m)
 unfolding passesBy
-passes-le n m = go (ltb m n)
+passes P n m f g = go (ltb m n) refl
   where
-    go : (b : Bool) → cond b (n - m) 0 ≤ n
-    go true = omega arith
-    go false = omega arith
+    go : (b : Bool) → ltb m n ≡ b → P (cond b (n - m) 0)
+    go true e = f (ltb-true m n e)
+    go false e = g (ltb-false m n e)
+
+pub passes-le : (n m : ℕ) → passesBy n m ≤ n
+passes-le n m = passes (λ d. d ≤ n) n m (λ h. omega arith) (λ h. omega arith)
+
+-- with m it covers n, and just so where it is above 0
+pub passes-covers : (n m : ℕ) → n ≤ m + passesBy n m
+passes-covers n m = passes (λ d. n ≤ m + d) n m (λ h. omega arith) (λ h. omega arith)
+
+pub passes-exact : (n m : ℕ) → 0 < passesBy n m → n ≡ m + passesBy n m
+passes-exact n m = passes (λ d. 0 < d → n ≡ m + d) n m (λ h q. omega arith) (λ h q. absurd (omega arith))
 
 -- by the verdict on the record, its due day and its state
 by-state : (P : Hold → Type 0) (day : ℕ) (r : Record) → P (record { from = r .seller; fen = penalty })

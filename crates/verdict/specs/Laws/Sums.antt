@@ -82,7 +82,7 @@ module _ (holds : Record → Hold) where
         let a : holds r .from ≤ length (sumsBy holds rs) = rw (sums-length rs) (known r) in
         rw (add-at (holds r .from) (holds r .fen .0) (sumsBy holds rs) p a, sum-is rs p h) (omega arith)
 
-    asked-le : (most : ℕ) → ((r : Record) → holds r .fen .0 ≤ most) → (x : ℕ) (rs : List Record) → asked x rs ≤ most * length rs
+    pub asked-le : (most : ℕ) → ((r : Record) → holds r .fen .0 ≤ most) → (x : ℕ) (rs : List Record) → asked x rs ≤ most * length rs
     unfolding asked
     asked-le most small x [] = omega arith
     asked-le most small x (r ∷ rs) =
