@@ -4,11 +4,13 @@
 // It is built another way on purpose. The zone is a book of columns of numbers. Of an account it keeps one number, its wealth: free and
 // frozen money together. What is frozen is never moved: it is counted anew from the lots wherever it is asked for. A call's entries
 // stand in columns beside the lots that they are about. The book is in `ledger_book`, the image in `ledger_image`, the tests of a call
-// in `ledger_numbers`, what a call does in `ledger_kinds`; here are the answer and the three entries.
+// in `ledger_numbers`, what a call does in `ledger_kinds`; here are the answer, the shortfalls and the four entries.
 mod answers;
 mod call_tables;
+mod figures;
 
 pub use call_tables::table;
+pub use figures::shortfalls;
 use ledger_book::ANSWER_LENGTH;
 use ledger_book::Book;
 use ledger_book::CALL_LENGTH;
@@ -40,13 +42,18 @@ pub fn call(image: &mut [u8], record: &[u8], answer: &mut [u8]) -> u64 {
     number
 }
 
-// The number of a call whose answer buffer is long enough; the book then holds the image.
-fn judge(book: &mut Book, image: &[u8], record: &[u8]) -> u64 {
+// Whether the bytes are a valid image; the book then holds it.
+fn is_image(book: &mut Book, image: &[u8]) -> bool {
     if image.len() != IMAGE_LENGTH {
-        return 2;
+        return false;
     }
     read_image(book, image);
-    if !is_valid(book) {
+    is_valid(book)
+}
+
+// The number of a call whose answer buffer is long enough; the book then holds the image.
+fn judge(book: &mut Book, image: &[u8], record: &[u8]) -> u64 {
+    if !is_image(book, image) {
         return 2;
     }
     if record.len() != CALL_LENGTH {

@@ -1,9 +1,9 @@
-// Where each field stands in an image (01 Image 1 to 4, 02 2/12), in a call record (01 Calls 2) and in an answer (01 Answers 1 and 3);
-// and how many calls a table has (02 5/12).
+// Where each field stands in an image (01 Image 1 to 4, 02 2/12), in a call record (01 Calls 2), in an answer (01 Answers 1 and 3) and in
+// the figures of shortfalls (02 6/12); and how many calls a table has (02 5/12).
 //
 // No other file of the second ledger or of the long runs says a length, a start or a size. A field is known by where it ends in its
 // record; it starts where the one before it ends. The lengths of records and buffers and the starts of tables follow. The fields of an
-// image and of an entry are also columns of the book, in the same order.
+// image, of an entry and of the figures are also columns of the book, in the same order.
 //
 // A field more is one line in each of three lists: where it ends, its column, and the ends by column. A table more is a `Table` besides.
 use crate::payments::minus;
@@ -172,6 +172,13 @@ pub const SPARE_CALLS: u64 = 4;
 pub const ANSWERS_LENGTH: usize = ((MOST_CALLS + SPARE_CALLS) as usize) * ANSWER_LENGTH
     + SPARE_LENGTH;
 
+// ── The figures ─────────────────────────────────────────────────────────────────────────────────
+
+// A shortfall for each account.
+const SHORTFALL_END: u64 = U64;
+
+pub const FIGURES_LENGTH: usize = (ACCOUNTS * SHORTFALL_END) as usize;
+
 // ── Columns ─────────────────────────────────────────────────────────────────────────────────────
 
 // The header's, in the zone's own row.
@@ -250,12 +257,15 @@ pub const NUMBER: u64 = TO + 1;
 
 pub const ENTRY_COLUMNS_END: u64 = NUMBER + 1;
 
+// An account's, in the figures.
+pub const SHORTFALL: u64 = ENTRY_COLUMNS_END;
+
 // An account's free and frozen money together. It stands in no buffer.
-pub const WEALTH: u64 = ENTRY_COLUMNS_END;
+pub const WEALTH: u64 = SHORTFALL + 1;
 
 pub const COLUMNS: u64 = WEALTH + 1;
 
-const PLACED_COLUMNS: usize = ENTRY_COLUMNS_END as usize;
+const PLACED_COLUMNS: usize = WEALTH as usize;
 
 // Where the field of each of these columns ends in its record.
 const ENDS: [u64; PLACED_COLUMNS] = [
@@ -291,6 +301,7 @@ const ENDS: [u64; PLACED_COLUMNS] = [
     FROM_END,
     TO_END,
     NUMBER_END,
+    SHORTFALL_END,
 ];
 
 // ── Tables ──────────────────────────────────────────────────────────────────────────────────────
@@ -340,6 +351,14 @@ const ENTRY_TABLE: Table = Table {
     records: RECEIPTS,
 };
 
+// The figures, one record for each account.
+const FIGURE_TABLE: Table = Table {
+    first: SHORTFALL,
+    start: 0,
+    length: SHORTFALL_END,
+    records: ACCOUNTS,
+};
+
 // The table that has the column.
 fn table_of(column: u64) -> Table {
     if column < FREE {
@@ -354,7 +373,10 @@ fn table_of(column: u64) -> Table {
     if column < RECEIPT_COLUMNS_END {
         return RECEIPT_TABLE;
     }
-    ENTRY_TABLE
+    if column < ENTRY_COLUMNS_END {
+        return ENTRY_TABLE;
+    }
+    FIGURE_TABLE
 }
 
 // ── Places ──────────────────────────────────────────────────────────────────────────────────────

@@ -2,7 +2,7 @@
 // whole image and whole answer are compared after every call. Most calls are sensible ones that carry lots through all states. The
 // others are wild (fields at the ends of their ranges, wrong lengths), or meet a copy of the image with one field out of place, with what
 // a lot holds put elsewhere, or with a total about its limit. Openings, and calls now and then, go in tables; a table is also compared with
-// its calls made one by one. The fresh entry is compared for buffers of all lengths.
+// its calls made one by one. Now and then both are asked for shortfalls. The fresh entry is compared for buffers of all lengths.
 //
 // The last line counts the differences.
 mod runs;
@@ -18,6 +18,7 @@ use longrun_calls::Plan;
 use longrun_calls::TO_LIMIT;
 use longrun_counts::Tally;
 use longrun_counts::empty_tally;
+use longrun_shortfalls::print_shortfalls;
 use longrun_tables::print_differences;
 use longrun_tables::print_reached;
 
@@ -67,5 +68,6 @@ fn main() {
     last_days(&mut tally);
     print_reached(&tally);
     print_call_tables(&tally);
+    print_shortfalls(&tally);
     print_differences(&tally);
 }

@@ -15,6 +15,7 @@ use longrun_draws::Request;
 use longrun_draws::below;
 use longrun_one_by_one::make_some_table;
 use longrun_one_by_one::open;
+use longrun_pay_ins::ask_now_and_then;
 use longrun_sides::agree_on_fresh;
 use longrun_sides::drive;
 use longrun_sides::filled;
@@ -73,6 +74,7 @@ fn next_call(seed: &mut u64, plan: Plan, image: &mut Page, second: &mut Page, ta
 fn make_calls(seed: &mut u64, plan: Plan, image: &mut Page, second: &mut Page, tally: &mut Tally) {
     let calls = plan.calls;
     for k in 0..calls {
+        ask_now_and_then(*seed, plan, image, tally);
         next_call(seed, plan, image, second, tally);
     }
 }

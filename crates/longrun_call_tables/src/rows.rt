@@ -23,7 +23,7 @@ use longrun_counts::Tally;
 use longrun_counts::counted;
 use longrun_counts::line;
 use longrun_tables::numbered_rows;
-use longrun_tables::row;
+use longrun_tables::unnamed_row;
 
 // ── What no table reached ───────────────────────────────────────────────────────────────────────
 
@@ -50,11 +50,6 @@ fn missed_edges(tally: &Tally) -> u64 {
 
 // ── Rows ────────────────────────────────────────────────────────────────────────────────────────
 
-// A row that has no name begins with its first count.
-fn unnamed(tally: &Tally, place: u64, width: u64) {
-    row(tally, counted(tally, place), plus(place, 1), width);
-}
-
 fn print_sizes(tally: &Tally) {
     io::write_all(
         1,
@@ -75,7 +70,7 @@ fn print_images(tally: &Tally) {
         1,
         b"taken with calls on a bad image: of another length, not valid\n",
     );
-    unnamed(tally, TABLE_IMAGES, BAD_IMAGES - 1);
+    unnamed_row(tally, TABLE_IMAGES, BAD_IMAGES);
 }
 
 fn print_reasons(tally: &Tally) {
@@ -85,19 +80,19 @@ fn print_reasons(tally: &Tally) {
     );
     numbered_rows(tally, 1, REASON_ROWS + 1, TABLE_REASONS, COUNTS_OF_REASON);
     io::write_all(1, b"for a record cut short, of 1 to 23 bytes\n");
-    unnamed(tally, TABLE_RESTS, RESTS - 1);
+    unnamed_row(tally, TABLE_RESTS, RESTS);
     io::write_all(
         1,
         b"bytes for answers: two or more too few, one too few, exact, less than an answer to spare, more\n",
     );
-    unnamed(tally, TABLE_ANSWERS, ANSWER_CLASSES - 1);
+    unnamed_row(tally, TABLE_ANSWERS, ANSWER_CLASSES);
 }
 
 fn print_answers(tally: &Tally) {
     io::write_all(1, b"calls in tables that were taken, by number from 0 on\n");
-    unnamed(tally, TABLE_NUMBERS, NUMBERS - 1);
+    unnamed_row(tally, TABLE_NUMBERS, NUMBERS);
     io::write_all(1, b"their entries, by outcome from 1 on\n");
-    unnamed(tally, TABLE_OUTCOMES, CALL_TABLES_END - TABLE_OUTCOMES - 1);
+    unnamed_row(tally, TABLE_OUTCOMES, CALL_TABLES_END - TABLE_OUTCOMES);
     line(
         b"tables with an accepted call behind a refused one: ",
         counted(tally, ACCEPTED_BEHIND),

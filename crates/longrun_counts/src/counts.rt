@@ -48,7 +48,7 @@ use longrun_draws::Request;
 
 // ── Entries ─────────────────────────────────────────────────────────────────────────────────────
 
-fn entries_in(answer: &Page) -> u64 {
+pub fn entries_in(answer: &Page) -> u64 {
     page_field(answer, ANSWER_PHASE_END, ENTRY_COUNT_END)
 }
 

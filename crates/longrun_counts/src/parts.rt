@@ -35,7 +35,7 @@ use longrun_draws::full_of;
 
 // ── Confirmations ───────────────────────────────────────────────────────────────────────────────
 
-fn count_where(tally: &mut Tally, place: u64, is_so: bool) {
+pub fn count_where(tally: &mut Tally, place: u64, is_so: bool) {
     if is_so {
         add(tally, place, 1);
     }

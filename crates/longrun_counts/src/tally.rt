@@ -170,7 +170,61 @@ pub const TABLE_OUTCOMES: u64 = TABLE_NUMBERS + NUMBERS;
 
 pub const CALL_TABLES_END: u64 = TABLE_OUTCOMES + LAST_OUTCOME;
 
-const TALLY_LENGTH: usize = CALL_TABLES_END as usize;
+// Askings for the figures of shortfalls, by the image: a valid one in a morning, in an afternoon; a bad one of another length, in a morning, in
+// an afternoon. Of each, by number.
+pub const ASKED: u64 = CALL_TABLES_END;
+
+pub const ASKED_IMAGES: u64 = 5;
+
+pub const ASKED_NUMBERS: u64 = 3;
+
+// By the bytes for figures: none, more than one too few, one too few, exact, one to spare, more.
+pub const FIGURES_ROOM: u64 = ASKED + ASKED_IMAGES * ASKED_NUMBERS;
+
+pub const ROOM_CLASSES: u64 = 6;
+
+// Lots that a close works in images whose figures were told: struck, lodged, with a penalty. Of each: in a morning, due earlier, today,
+// tomorrow, later; in an afternoon, due, and due later.
+pub const CLOSE_LOTS: u64 = FIGURES_ROOM + ROOM_CLASSES;
+
+pub const CLOSE_ROWS: u64 = 3;
+
+pub const COUNTS_OF_CLOSE: u64 = 6;
+
+// Accounts from which due lots take something or nothing: those that lack money, those whose free money covers it, those of which nothing
+// is taken. Of each, by the due lots: one struck, one lodged, one penalty, several trades, several penalties, both of these.
+pub const OWING: u64 = CLOSE_LOTS + CLOSE_ROWS * COUNTS_OF_CLOSE;
+
+pub const OWING_ROWS: u64 = 3;
+
+pub const OWING_CLASSES: u64 = 6;
+
+// Figures above 0: of one fen, with a full payment below the deposit among the account's trades, of the first account, of the last,
+// and those that need more than 32 bits.
+pub const SHORT: u64 = OWING + OWING_ROWS * OWING_CLASSES;
+
+pub const SHORT_ONE_FEN: u64 = SHORT;
+
+pub const SHORT_BELOW_DEPOSIT: u64 = SHORT + 1;
+
+pub const SHORT_FIRST: u64 = SHORT + 2;
+
+pub const SHORT_LAST: u64 = SHORT + 3;
+
+pub const SHORT_ABOVE_U32: u64 = SHORT + 4;
+
+pub const SHORT_CLASSES: u64 = 5;
+
+// Figures paid in before a close, by the account's due lots as above; and those paid in but for one fen, of a trade that was struck, lodged.
+pub const PAID_FIGURES: u64 = SHORT + SHORT_CLASSES;
+
+pub const PAID_LESS: u64 = PAID_FIGURES + OWING_CLASSES;
+
+pub const PAID_LESS_STATES: u64 = 2;
+
+pub const SHORTFALLS_END: u64 = PAID_LESS + PAID_LESS_STATES;
+
+const TALLY_LENGTH: usize = SHORTFALLS_END as usize;
 
 pub type Tally = [u64; TALLY_LENGTH];
 

@@ -5,4 +5,4 @@ mod rows;
 pub use rows::numbered_rows;
 pub use rows::print_differences;
 pub use rows::print_reached;
-pub use rows::row;
+pub use rows::unnamed_row;

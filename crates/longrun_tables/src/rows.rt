@@ -62,12 +62,22 @@ fn aligned(value: u64) {
 }
 
 // A row of counts from `place` on, behind its name.
-pub fn row(tally: &Tally, name: u64, place: u64, width: u64) {
+fn row(tally: &Tally, name: u64, place: u64, width: u64) {
     aligned(name);
     for k in 0..width {
         aligned(counted(tally, plus(place, k)));
     }
     io::write_all(1, b"\n");
+}
+
+// A row that has no name begins with its first count.
+pub fn unnamed_row(tally: &Tally, place: u64, width: u64) {
+    row(
+        tally,
+        counted(tally, place),
+        plus(place, 1),
+        minus(width, 1),
+    );
 }
 
 // Rows one behind another, named from `first` on.

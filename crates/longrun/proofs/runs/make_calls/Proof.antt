@@ -12,6 +12,9 @@ abbrev μ-loop : tie.MeasureT-loop
 loop-holds : tie.Need-loop-holds Inv-loop μ-loop
 loop-holds c = search needs
 
+ask-now-and-then-requires : tie.Need-ask-now-and-then-requires Inv-loop μ-loop
+ask-now-and-then-requires c κs = search needs
+
 next-call-requires : tie.Need-next-call-requires Inv-loop μ-loop
 next-call-requires c κs = search needs
 
@@ -30,4 +33,13 @@ returns c = search needs
 pub make-calls-spec : {M : Type 1} → statement M
 make-calls-spec =
     tie.close
-    (tie.spec Inv-loop μ-loop loop-holds next-call-requires add-k loop-less loop-again returns)
+    (tie.spec
+    Inv-loop
+    μ-loop
+    loop-holds
+    ask-now-and-then-requires
+    next-call-requires
+    add-k
+    loop-less
+    loop-again
+    returns)
