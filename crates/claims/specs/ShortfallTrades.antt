@@ -10,7 +10,7 @@ use Rattle.zone.specs.Valid.{freshZone}
 use Rattle.rules.specs.declared.Call.{Call}
 use Rattle.rules.specs.Tables.{nth}
 use Rattle.rules.specs.View.{freeOf, receiptOfNumber}
-use Rattle.shortfalls.specs.Shortfalls.{passesBy, penaltiesDue, paymentsDue, shortfall}
+use Rattle.shortfalls.specs.Shortfalls.{excess, penaltiesDue, paymentsDue, shortfall}
 use Rattle.claims.specs.History.{Reply}
 use Rattle.claims.specs.Replay.{replyTo, zoneAfter}
 use Rattle.claims.specs.Words.{payIn, registers, lists, bids, quote, lodges, morningClose, dayClose, oneEntry}
@@ -59,7 +59,7 @@ pub record ShortfallTrades : Type 0 where
   pub penalty-paid : closing (owing ++ (payIn 1 5000000 ∷ [])) ≡ oneEntry 7 15 1 2 5000000
 
 pub shortfall-trades : ShortfallTrades
-unfolding replyTo zoneAfter freshZone recordOf receiptOfNumber freeOf nth shortfall penaltiesDue paymentsDue passesBy full
+unfolding replyTo zoneAfter freshZone recordOf receiptOfNumber freeOf nth shortfall penaltiesDue paymentsDue excess full
 shortfall-trades =
     record {
       struck = refl;

@@ -16,8 +16,8 @@ use Rattle.image.specs.Table.{table, tableBytes}
 use Rattle.rules.specs.View.{freeOf}
 
 -- the amount by which n passes m; where it does not, nothing, and never less. The test keeps the difference from stopping at 0.
-unfoldable pub passesBy : ℕ → ℕ → ℕ
-passesBy n m = cond (ltb m n) (n - m) 0
+unfoldable pub excess : ℕ → ℕ → ℕ
+excess n m = cond (ltb m n) (n - m) 0
 
 -- ── One lot, for account x on a day (02 6/12) ──────────────────────────────────────────────────
 
@@ -43,7 +43,7 @@ penaltiesDue day x (r ∷ rs) = cond (owesPenalty day x (recordOf r)) (penalty .
 -- Of each due trade that x buys, what full has above the deposit. A trade that costs less asks for nothing and helps no other.
 unfoldable pub paymentsDue : ℕ → ℕ → List Receipt → ℕ
 paymentsDue day x [] = 0
-paymentsDue day x (r ∷ rs) = cond (buysDue day x (recordOf r)) (passesBy (full (recordOf r) .0) (deposit .0)) 0 + paymentsDue day x rs
+paymentsDue day x (r ∷ rs) = cond (buysDue day x (recordOf r)) (excess (full (recordOf r) .0) (deposit .0)) 0 + paymentsDue day x rs
 
 -- ── The figures ────────────────────────────────────────────────────────────────────────────────
 
@@ -51,7 +51,7 @@ paymentsDue day x (r ∷ rs) = cond (buysDue day x (recordOf r)) (passesBy (full
 unfoldable pub shortfall : Zone → ℕ → ℕ
 shortfall z x =
     cond (z .afternoon) 0
-    (passesBy (penaltiesDue (z .day) x (z .receipts) + paymentsDue (z .day) x (z .receipts)) (freeOf (z .accounts) x .0))
+    (excess (penaltiesDue (z .day) x (z .receipts) + paymentsDue (z .day) x (z .receipts)) (freeOf (z .accounts) x .0))
 
 -- how many bytes a figure takes, and all of them
 abbrev pub figureLength : ℕ

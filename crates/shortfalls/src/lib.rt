@@ -8,8 +8,8 @@ ghost use Rattle.units.specs.Payments.{fen};
 ghost use Rattle.zone.specs.Valid.{recordValid};
 ghost use Rattle.image.specs.Image.{validImage, decode};
 ghost use Rattle.image.specs.Layout.{afternoonIn};
-ghost use Rattle.shortfalls.specs.Shortfalls.{passesBy, figuresLength, figureBytes};
-ghost use Rattle.shortfalls.specs.Walk.{askedOf, askedSums};
+ghost use Rattle.shortfalls.specs.Shortfalls.{excess, figuresLength, figureBytes};
+ghost use Rattle.shortfalls.specs.Walk.{owedOf, owedSums};
 use units::ACCOUNTS;
 use units::Fen;
 use units::PER_RECEIPT;
@@ -26,18 +26,18 @@ pub const FIGURE_LENGTH: usize = 8;
 
 pub const FIGURES_LENGTH: usize = ACCOUNTS * FIGURE_LENGTH;
 
-// ── What a lot asks ─────────────────────────────────────────────────────────────────────────────
+// ── What is owed for a lot ──────────────────────────────────────────────────────────────────────
 
-fn passes_by(n: Fen, m: Fen) -> Fen
-    ensures { λ r. ⌜ r ≡ fen (passesBy (n .0) (m .0)) ⌝ }
+fn excess(n: Fen, m: Fen) -> Fen
+    ensures { λ r. ⌜ r ≡ fen (excess (n .0) (m .0)) ⌝ }
 {
     if m.0 < n.0 { Fen(n.0 - m.0) } else { Fen(0) }
 }
 
-// A due lot asks its seller for the penalty, or its buyer for what full has above the deposit.
-fn asked_of(r: Record, day: u16) -> Hold
+// For a lot that is due its seller owes the penalty, or its buyer what full has above the deposit.
+fn owed_of(r: Record, day: u16) -> Hold
     requires { ⌜ recordValid r ≡ true ⌝ }
-    ensures { λ x. ⌜ x ≡ askedOf day r ⌝ }
+    ensures { λ x. ⌜ x ≡ owedOf day r ⌝ }
 {
     let seller = r.seller;
     let buyer = r.buyer;
@@ -54,24 +54,24 @@ fn asked_of(r: Record, day: u16) -> Hold
     if (STATE_STRUCK <= s) & (s <= STATE_LODGED) {
         return Hold {
             from: buyer,
-            fen: passes_by(validity::full_of(r), units::deposit_per_receipt()),
+            fen: excess(validity::full_of(r), units::deposit_per_receipt()),
         };
     }
     verdict::no_hold()
 }
 
-// ── What the lots ask of each account ───────────────────────────────────────────────────────────
+// ── What each account owes ──────────────────────────────────────────────────────────────────────
 
-// One walk from the last lot to the first: what a lot asks goes to the sum of the account that it names.
-fn asked_sums(image: &[u8], day: u16) -> [Fen; ACCOUNTS]
+// One walk from the last lot to the first: what is owed for a lot goes to the sum of the account that it names.
+fn owed_sums(image: &[u8], day: u16) -> [Fen; ACCOUNTS]
     requires { ⌜ validImage (now image) ≡ true ⌝ }
-    ensures { λ r. ⌜ r ≡ askedSums day (now (image .entry)) ⌝ }
+    ensures { λ r. ⌜ r ≡ owedSums day (now (image .entry)) ⌝ }
 {
     let mut sums: [Fen; ACCOUNTS] = [Fen(0); ACCOUNTS];
     let mut i: usize = RECEIPTS;
     while 0 < i {
         i -= 1;
-        let h = asked_of(image::record_at(image, i), day);
+        let h = owed_of(image::record_at(image, i), day);
         let from = h.from as usize;
         if from != 0 {
             let place = from - 1;
@@ -83,16 +83,16 @@ fn asked_sums(image: &[u8], day: u16) -> [Fen; ACCOUNTS]
 
 // ── The figures ─────────────────────────────────────────────────────────────────────────────────
 
-// In a morning: what is asked of an account, less its free money.
+// In a morning: what an account owes, less its free money.
 fn put_morning_figures(image: &[u8], figures: &mut [u8])
     requires { ⌜ (validImage (now image) ≡ true) × (afternoonIn (now image) ≡ false) × (figuresLength ≤ length (now figures)) ⌝ }
     ensures { λ _. ⌜ now (figures .exit) ≡ sets (now (figures .entry)) 0 (figureBytes (decode (now (image .entry)))) ⌝ }
 {
-    let sums = asked_sums(image, image::day_in(image));
+    let sums = owed_sums(image, image::day_in(image));
     let mut i: usize = 0;
     while i < ACCOUNTS {
         let a = image::account_at(image, i);
-        let figure = passes_by(sums[i], a.free);
+        let figure = excess(sums[i], a.free);
         wire::put_u64(figures, i * FIGURE_LENGTH, figure.0);
         i += 1;
     }

@@ -21,9 +21,13 @@ use Rattle.image.specs.Layout.{imageLength, headerOk, dayIn, totalIn, asksIn, a
 abbrev pub noHold : Hold
 noHold = record { from = 0; fen = fen 0 }
 
+-- what `holds` says of a valid record; of one that is not valid, nothing
+unfoldable pub ofValid : (Record → Hold) → Record → Hold
+ofValid holds r = cond (recordValid r) (holds r) noHold
+
 -- what a record's lot holds, and from whom; a record that is not valid holds nothing
-unfoldable pub validHold : Record → Hold
-validHold r = cond (recordValid r) (holdOf r) noHold
+abbrev pub validHold : Record → Hold
+validHold r = ofValid holdOf r
 
 -- n more in the sum of account a. The sum of account 1 stands at place 0 and so on; nobody, number 0, has none.
 unfoldable pub addTo : ℕ → ℕ → List Fen → List Fen

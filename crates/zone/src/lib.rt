@@ -107,7 +107,7 @@ pub struct Record {
     pub premium: Premium,
 }
 
-// Money and whose it is: what a lot holds from an account, or asks it for.
+// Money and whose it is: what a lot holds from an account, or what the account owes for it.
 pub struct Hold {
     pub from: u8,
     pub fen: Fen,

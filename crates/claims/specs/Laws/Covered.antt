@@ -37,65 +37,65 @@ use Rattle.rules.specs.Laws.Moves.{fenFrom-zero}
 use Rattle.rules.specs.Laws.Tables.{among-one, nth-put-other}
 use Rattle.rules.specs.Tables.{among, nth, put}
 use Rattle.rules.specs.View.{freeOf, receiptOfNumber, recordOfReceipt, viewOf}
-use Rattle.shortfalls.specs.Shortfalls.{passesBy, isDue, owesPenalty, buysDue, penaltiesDue, paymentsDue}
+use Rattle.shortfalls.specs.Shortfalls.{excess, isDue, owesPenalty, buysDue, penaltiesDue, paymentsDue}
 use Rattle.claims.specs.Shortfalls.{isDefaultOf, NoDefaultOf, DefaultOf, here, later, hasPart}
 
 -- ── What a lot asks ────────────────────────────────────────────────────────────────────────────
 
 -- what the lot of a record asks of account x
-abbrev lotAsks : ℕ → ℕ → Record → ℕ
-lotAsks day x r = cond (owesPenalty day x r) (penalty .0) 0 + cond (buysDue day x r) (passesBy (full r .0) (deposit .0)) 0
+abbrev owedFor : ℕ → ℕ → Record → ℕ
+owedFor day x r = cond (owesPenalty day x r) (penalty .0) 0 + cond (buysDue day x r) (excess (full r .0) (deposit .0)) 0
 
 -- what full has above the deposit
 abbrev aboveDeposit : Record → ℕ
-aboveDeposit r = passesBy (full r .0) (deposit .0)
+aboveDeposit r = excess (full r .0) (deposit .0)
 
-struck-asks : (day x : ℕ) (r : Record) → r .state ≡ 3 → isDue day r ≡ true → lotAsks day x r ≡ fenFrom x (r .buyer) (aboveDeposit r)
+struck-owes : (day x : ℕ) (r : Record) → r .state ≡ 3 → isDue day r ≡ true → owedFor day x r ≡ fenFrom x (r .buyer) (aboveDeposit r)
 unfolding fenFrom
-struck-asks day x r s d = rw (s, d) (omega arith)
+struck-owes day x r s d = rw (s, d) (omega arith)
 
-lodged-asks : (day x : ℕ) (r : Record) → r .state ≡ 4 → isDue day r ≡ true → lotAsks day x r ≡ fenFrom x (r .buyer) (aboveDeposit r)
+lodged-owes : (day x : ℕ) (r : Record) → r .state ≡ 4 → isDue day r ≡ true → owedFor day x r ≡ fenFrom x (r .buyer) (aboveDeposit r)
 unfolding fenFrom
-lodged-asks day x r s d = rw (s, d) (omega arith)
+lodged-owes day x r s d = rw (s, d) (omega arith)
 
-penalty-asks : (day x : ℕ) (r : Record) → r .state ≡ 7 → isDue day r ≡ true → lotAsks day x r ≡ fenFrom x (r .seller) perReceipt
+penalty-owes : (day x : ℕ) (r : Record) → r .state ≡ 7 → isDue day r ≡ true → owedFor day x r ≡ fenFrom x (r .seller) perReceipt
 unfolding fenFrom
-penalty-asks day x r s d = rw (s, d) (omega arith)
+penalty-owes day x r s d = rw (s, d) (omega arith)
 
 -- ── Lots from n on ─────────────────────────────────────────────────────────────────────────────
 
 -- what `more` lots from number n on ask of account x
-unfoldable asksFrom : ℕ → ℕ → ℕ → ℕ → List Receipt → ℕ
-asksFrom day x zero n l = 0
-asksFrom day x (suc more) n l = lotAsks day x (recordOf (receiptOfNumber l n)) + asksFrom day x more (suc n) l
+unfoldable owedFrom : ℕ → ℕ → ℕ → ℕ → List Receipt → ℕ
+owedFrom day x zero n l = 0
+owedFrom day x (suc more) n l = owedFor day x (recordOf (receiptOfNumber l n)) + owedFrom day x more (suc n) l
 
-asks-list : (day x : ℕ) (l : List Receipt) (n : ℕ) (m : List Receipt) → ((k : ℕ) → receiptOfNumber l (n + k) ≡ getD m k noReceipt) →
-    asksFrom day x (length m) n l ≡ penaltiesDue day x m + paymentsDue day x m
-unfolding asksFrom penaltiesDue paymentsDue
-asks-list day x l n [] h = refl
-asks-list day x l n (r ∷ m) h =
+owed-list : (day x : ℕ) (l : List Receipt) (n : ℕ) (m : List Receipt) → ((k : ℕ) → receiptOfNumber l (n + k) ≡ getD m k noReceipt) →
+    owedFrom day x (length m) n l ≡ penaltiesDue day x m + paymentsDue day x m
+unfolding owedFrom penaltiesDue paymentsDue
+owed-list day x l n [] h = refl
+owed-list day x l n (r ∷ m) h =
     let a : receiptOfNumber l n ≡ r = rw add-zero at (h 0) in
-    let others : asksFrom day x (length m) (suc n) l ≡ penaltiesDue day x m + paymentsDue day x m =
-    asks-list day x l (suc n) m (λ k. ap (receiptOfNumber l) (omega arith) ∙ h (suc k)) in
+    let others : owedFrom day x (length m) (suc n) l ≡ penaltiesDue day x m + paymentsDue day x m =
+    owed-list day x l (suc n) m (λ k. ap (receiptOfNumber l) (omega arith) ∙ h (suc k)) in
     rw a (omega (arith, others))
 
 -- all lots
-asks-all : (day x : ℕ) (l : List Receipt) → length l ≡ receiptCount → asksFrom day x receiptCount 1 l ≡ penaltiesDue day x l + paymentsDue day x l
+owed-all : (day x : ℕ) (l : List Receipt) → length l ≡ receiptCount → owedFrom day x receiptCount 1 l ≡ penaltiesDue day x l + paymentsDue day x l
 unfolding receiptOfNumber nth
-asks-all day x l e = rw e at (asks-list day x l 1 l (λ k. let q : 1 + k ≡ suc k = omega arith in ap (nth noReceipt l) q))
+owed-all day x l e = rw e at (owed-list day x l 1 l (λ k. let q : 1 + k ≡ suc k = omega arith in ap (nth noReceipt l) q))
 
 -- a lot before n changes nothing
-asks-put : (day x more n : ℕ) (l : List Receipt) (k : ℕ) (r : Receipt) → k < n → asksFrom day x more n (put l k r) ≡ asksFrom day x more n l
-unfolding asksFrom receiptOfNumber
-asks-put day x zero n l k r h = refl
-asks-put day x (suc more) n l k r h =
-    rw (nth-put-other noReceipt l n k r (omega arith), asks-put day x more (suc n) l k r (omega arith))
+owed-put : (day x more n : ℕ) (l : List Receipt) (k : ℕ) (r : Receipt) → k < n → owedFrom day x more n (put l k r) ≡ owedFrom day x more n l
+unfolding owedFrom receiptOfNumber
+owed-put day x zero n l k r h = refl
+owed-put day x (suc more) n l k r h =
+    rw (nth-put-other noReceipt l n k r (omega arith), owed-put day x more (suc n) l k r (omega arith))
 
 -- ── The close at one lot ───────────────────────────────────────────────────────────────────────
 
 -- n fen are covered by m and what n passes m by
-covered-by : (x a n m : ℕ) → fenFrom x a n ≤ fenFrom x a m + fenFrom x a (passesBy n m)
-unfolding fenFrom passesBy
+covered-by : (x a n m : ℕ) → fenFrom x a n ≤ fenFrom x a m + fenFrom x a (excess n m)
+unfolding fenFrom excess
 covered-by x a n m = go (eqb x a) (ltb m n) refl
   where
     go : (b t : Bool) → ltb m n ≡ t → cond b n 0 ≤ cond b m 0 + cond b (cond t (n - m) 0) 0
@@ -113,13 +113,13 @@ fenFrom-up x a n m h = go (eqb x a)
     go false = omega arith
 
 -- An account that has what the lot asks is not named in a default, and what the lot takes from its free money is no more than asked.
-record Borne (day x free : ℕ) (f : Record) (e : Entry) (r : Receipt) : Type 0 where
-  bears : heldFrom x (recordOf r) + fenFrom x (e .from) (moneyOf e .0) ≤ heldFrom x f + fenFrom x (e .to) (moneyOf e .0) + lotAsks day x f
-  quiet : lotAsks day x f ≤ free → isDefaultOf x e ≡ false
+record TakesAtMost (day x free : ℕ) (f : Record) (e : Entry) (r : Receipt) : Type 0 where
+  takes : heldFrom x (recordOf r) + fenFrom x (e .from) (moneyOf e .0) ≤ heldFrom x f + fenFrom x (e .to) (moneyOf e .0) + owedFor day x f
+  no-default : owedFor day x f ≤ free → isDefaultOf x e ≡ false
 
 module _ (z : Zone) (c : Call) (n x : ℕ) (f : Record) (due : isDue (z .day) f ≡ true) where
-  abbrev Bears : Entry → Receipt → Type 0
-  Bears e r = Borne (z .day) x (freeOf (z .accounts) x .0) f e r
+  abbrev Takes : Entry → Receipt → Type 0
+  Takes e r = TakesAtMost (z .day) x (freeOf (z .accounts) x .0) f e r
 
   -- a buyer that lacks the money is another account
   another : fenFrom x (f .buyer) (aboveDeposit f) ≤ freeOf (z .accounts) x .0 → leb (full f .0) (freeOf (z .accounts) (f .buyer) .0 + perReceipt) ≡ false →
@@ -138,58 +138,58 @@ module _ (z : Zone) (c : Call) (n x : ℕ) (f : Record) (due : isDue (z .day) f 
   unfolding heldFrom held
   lodged-held s = rw s
 
-  settles : f .state ≡ 4 → On Bears (Event (entryOf n 8 (f .seller) (f .buyer) (full f .0)) (ownedBy (f .buyer) f (Settled (tradeOf f))))
+  settles : f .state ≡ 4 → On Takes (Event (entryOf n 8 (f .seller) (f .buyer) (full f .0)) (ownedBy (f .buyer) f (Settled (tradeOf f))))
   unfolding moneyOf heldFrom held full recordOf
   settles s =
       event (record {
-        bears = omega (
+        takes = omega (
           arith,
           fenFrom-zero x (f .buyer),
           fenFrom-zero x (f .seller),
           covered-by x (f .buyer) (full f .0) perReceipt,
           lodged-held s,
-          lodged-asks (z .day) x f s due,
+          lodged-owes (z .day) x f s due,
         );
-        quiet = λ h. refl;
+        no-default = λ h. refl;
       })
 
-  defaults : f .state ≡ 4 → leb (full f .0) (freeOf (z .accounts) (f .buyer) .0 + perReceipt) ≡ false → On Bears (eventOf n f Idle 12 (deposit .0))
+  defaults : f .state ≡ 4 → leb (full f .0) (freeOf (z .accounts) (f .buyer) .0 + perReceipt) ≡ false → On Takes (eventOf n f Idle 12 (deposit .0))
   unfolding moneyOf heldFrom held recordOf
   defaults s m =
       event (record {
-        bears = omega (arith, fenFrom-zero x 0, lodged-held s);
-        quiet = λ h. another (omega (arith, lodged-asks (z .day) x f s due)) m;
+        takes = omega (arith, fenFrom-zero x 0, lodged-held s);
+        no-default = λ h. another (omega (arith, lodged-owes (z .day) x f s due)) m;
       })
 
-  penalises : f .state ≡ 3 → On Bears (eventOf n f (PenaltyDue (f .seller) (f .buyer) (z .day + 1)) 13 0)
+  penalises : f .state ≡ 3 → On Takes (eventOf n f (PenaltyDue (f .seller) (f .buyer) (z .day + 1)) 13 0)
   unfolding moneyOf heldFrom held recordOf
   penalises s =
       event (record {
-        bears = omega (arith, fenFrom-zero x (f .buyer), fenFrom-zero x (f .seller));
-        quiet = λ h. refl;
+        takes = omega (arith, fenFrom-zero x (f .buyer), fenFrom-zero x (f .seller));
+        no-default = λ h. refl;
       })
 
-  cancels : f .state ≡ 3 → leb (full f .0) (freeOf (z .accounts) (f .buyer) .0 + perReceipt) ≡ false → On Bears (eventOf n f Idle 14 0)
+  cancels : f .state ≡ 3 → leb (full f .0) (freeOf (z .accounts) (f .buyer) .0 + perReceipt) ≡ false → On Takes (eventOf n f Idle 14 0)
   unfolding moneyOf heldFrom held recordOf
   cancels s m =
       event (record {
-        bears = omega (arith, fenFrom-zero x 0, fenFrom-zero x (f .buyer), fenFrom-zero x (f .seller));
-        quiet = λ h. another (omega (arith, struck-asks (z .day) x f s due)) m;
+        takes = omega (arith, fenFrom-zero x 0, fenFrom-zero x (f .buyer), fenFrom-zero x (f .seller));
+        no-default = λ h. another (omega (arith, struck-owes (z .day) x f s due)) m;
       })
 
-  fines : f .state ≡ 7 → On Bears (eventOf n f Idle 15 (penaltyPassed (freeOf (z .accounts) (f .seller)) .0))
+  fines : f .state ≡ 7 → On Takes (eventOf n f Idle 15 (penaltyPassed (freeOf (z .accounts) (f .seller)) .0))
   unfolding moneyOf heldFrom held recordOf
   fines s =
       let p : ℕ = penaltyPassed (freeOf (z .accounts) (f .seller)) .0 in
       let q = penalty-at-most (freeOf (z .accounts) (f .seller)) in
       event (record {
-        bears = omega (arith, fenFrom-zero x 0, fenFrom-up x (f .seller) p perReceipt (q .1), penalty-asks (z .day) x f s due);
-        quiet = λ h. refl;
+        takes = omega (arith, fenFrom-zero x 0, fenFrom-up x (f .seller) p perReceipt (q .1), penalty-owes (z .day) x f s due);
+        no-default = λ h. refl;
       })
 
-close-borne : (z : Zone) (c : Call) (n x : ℕ) (f : Record) → On (Borne (z .day) x (freeOf (z .accounts) x .0) f) (closeLot (viewOf z (c .account) f) n f)
+close-takes : (z : Zone) (c : Call) (n x : ℕ) (f : Record) → On (TakesAtMost (z .day) x (freeOf (z .accounts) x .0) f) (closeLot (viewOf z (c .account) f) n f)
 unfolding closeLot viewOf
-close-borne z c n x f =
+close-takes z c n x f =
     let money : Bool = hasMoney (viewOf z (c .account) f) f in
     only (leb (f .due) (z .day)) _ λ due.
     chosen (among (f .state) (4 ∷ [])) _ _
@@ -224,35 +224,35 @@ module _ (x : ℕ) (px : 0 < x) where
 
   -- after the event of lot n it has what the lots behind it ask
   still-covered : {c : Call} {lo : ℕ} {z : Zone} {n : ℕ} {e : Entry} {r : Receipt} (more : ℕ) → Linked c lo z n e r
-      → Borne (z .day) x (freeOf (z .accounts) x .0) (recordOfReceipt z n) e r
-      → lotAsks (z .day) x (recordOfReceipt z n) + asksFrom (z .day) x more (suc n) (z .receipts) ≤ freeOf (z .accounts) x .0
-      → asksFrom (posted z e r .day) x more (suc n) (posted z e r .receipts) ≤ freeOf (posted z e r .accounts) x .0
+      → TakesAtMost (z .day) x (freeOf (z .accounts) x .0) (recordOfReceipt z n) e r
+      → owedFor (z .day) x (recordOfReceipt z n) + owedFrom (z .day) x more (suc n) (z .receipts) ≤ freeOf (z .accounts) x .0
+      → owedFrom (posted z e r .day) x more (suc n) (posted z e r .receipts) ≤ freeOf (posted z e r .accounts) x .0
   unfolding posted
   still-covered {z = z} {n = n} {e = e} {r = r} more L B h =
-      let same : asksFrom (z .day) x more (suc n) (put (z .receipts) (e .lot) r) ≡ asksFrom (z .day) x more (suc n) (z .receipts) =
-      asks-put (z .day) x more (suc n) (z .receipts) (e .lot) r (omega (arith, L .fit .entry .lot)) in
-      omega (arith, same, free-after L, B .bears)
+      let same : owedFrom (z .day) x more (suc n) (put (z .receipts) (e .lot) r) ≡ owedFrom (z .day) x more (suc n) (z .receipts) =
+      owed-put (z .day) x more (suc n) (z .receipts) (e .lot) r (omega (arith, L .fit .entry .lot)) in
+      omega (arith, same, free-after L, B .takes)
 
   module _ (c : Call) (k : c .kind ≡ 11) where
-    sweep-quiet : (more n : ℕ) (z : Zone) → 0 < n → n + more ≤ receiptCount + 1 → Good z → asksFrom (z .day) x more n (z .receipts) ≤ freeOf (z .accounts) x .0
+    sweep-no-default : (more n : ℕ) (z : Zone) → 0 < n → n + more ≤ receiptCount + 1 → Good z → owedFrom (z .day) x more n (z .receipts) ≤ freeOf (z .accounts) x .0
         → NoDefaultOf x (sweep (ruleAt c) more n z .entries)
-    unfolding sweep asksFrom
-    sweep-quiet zero n z a b G h = tt
-    sweep-quiet (suc more) n z a b G h =
-        go (ruleAt c z n) refl (λ y Y q. sweep-quiet more (suc n) y (omega arith) (omega arith) Y q)
+    unfolding sweep owedFrom
+    sweep-no-default zero n z a b G h = tt
+    sweep-no-default (suc more) n z a b G h =
+        go (ruleAt c z n) refl (λ y Y q. sweep-no-default more (suc n) y (omega arith) (omega arith) Y q)
       where
         go : (s : AtLot) → ruleAt c z n ≡ s
-            → ((y : Zone) → Good y → asksFrom (y .day) x more (suc n) (y .receipts) ≤ freeOf (y .accounts) x .0 → NoDefaultOf x (sweep (ruleAt c) more (suc n) y .entries))
+            → ((y : Zone) → Good y → owedFrom (y .day) x more (suc n) (y .receipts) ≤ freeOf (y .accounts) x .0 → NoDefaultOf x (sweep (ruleAt c) more (suc n) y .entries))
             → NoDefaultOf x (afterLot z s .entries ++ sweep (ruleAt c) more (suc n) (afterLot z s .zone) .entries)
         go NoEvent q g = g z G (omega arith)
         go (Event e r) q g =
             let L : Linked c n z n e r = linked n e r a (omega arith) (omega arith) (close-visits c k z n) q G in
-            let B : Borne (z .day) x (freeOf (z .accounts) x .0) (recordOfReceipt z n) e r = on-event (close-borne z c n x (recordOfReceipt z n)) (sym (close-rule c k z n) ∙ q) in
-            (B .quiet (omega arith), g (posted z e r) (L .next) (still-covered more L B h))
+            let B : TakesAtMost (z .day) x (freeOf (z .accounts) x .0) (recordOfReceipt z n) e r = on-event (close-takes z c n x (recordOfReceipt z n)) (sym (close-rule c k z n) ∙ q) in
+            (B .no-default (omega arith), g (posted z e r) (L .next) (still-covered more L B h))
 
-    pub close-quiet : (z : Zone) → Good z → penaltiesDue (z .day) x (z .receipts) + paymentsDue (z .day) x (z .receipts) ≤ freeOf (z .accounts) x .0
+    pub close-no-default : (z : Zone) → Good z → penaltiesDue (z .day) x (z .receipts) + paymentsDue (z .day) x (z .receipts) ≤ freeOf (z .accounts) x .0
         → NoDefaultOf x (sweep (ruleAt c) receiptCount 1 z .entries)
-    close-quiet z G h = sweep-quiet receiptCount 1 z (omega arith) (omega arith) G (omega (arith, asks-all (z .day) x (z .receipts) (G .sized .receipts)))
+    close-no-default z G h = sweep-no-default receiptCount 1 z (omega arith) (omega arith) G (omega (arith, owed-all (z .day) x (z .receipts) (G .sized .receipts)))
 
 -- ── An account without a part in a lot ─────────────────────────────────────────────────────────
 
@@ -276,8 +276,8 @@ worked : (f : Record) (s : ℕ) → within 3 4 s || eqb s 7 ≡ true → f .stat
 worked f s h e = rw e h
 
 -- the close leaves the free money of x as it was
-record Level (x : ℕ) (f : Record) (e : Entry) (r : Receipt) : Type 0 where
-  level : heldFrom x (recordOf r) + fenFrom x (e .from) (moneyOf e .0) ≡ heldFrom x f + fenFrom x (e .to) (moneyOf e .0)
+record FreeKept (x : ℕ) (f : Record) (e : Entry) (r : Receipt) : Type 0 where
+  kept : heldFrom x (recordOf r) + fenFrom x (e .from) (moneyOf e .0) ≡ heldFrom x f + fenFrom x (e .to) (moneyOf e .0)
 
 module _ (x n : ℕ) (f : Record) (A : Apart x f) where
   none-bought : (m : ℕ) → fenFrom x (f .buyer) m ≡ 0
@@ -291,36 +291,36 @@ module _ (x n : ℕ) (f : Record) (A : Apart x f) where
   none-held = none-bought (held f .0)
 
   -- whatever becomes of the lot, with the same parties or none
-  settles-level : On (Level x f) (Event (entryOf n 8 (f .seller) (f .buyer) (full f .0)) (ownedBy (f .buyer) f (Settled (tradeOf f))))
+  settles-kept : On (FreeKept x f) (Event (entryOf n 8 (f .seller) (f .buyer) (full f .0)) (ownedBy (f .buyer) f (Settled (tradeOf f))))
   unfolding moneyOf heldFrom held full recordOf
-  settles-level = event (record { level = omega (arith, none-held, none-bought 0, none-sold 0, none-bought (full f .0)) })
+  settles-kept = event (record { kept = omega (arith, none-held, none-bought 0, none-sold 0, none-bought (full f .0)) })
 
-  defaults-level : On (Level x f) (eventOf n f Idle 12 (deposit .0))
+  defaults-kept : On (FreeKept x f) (eventOf n f Idle 12 (deposit .0))
   unfolding moneyOf heldFrom held recordOf
-  defaults-level = event (record { level = omega (arith, none-held, none-bought perReceipt, none-sold perReceipt, fenFrom-zero x 0) })
+  defaults-kept = event (record { kept = omega (arith, none-held, none-bought perReceipt, none-sold perReceipt, fenFrom-zero x 0) })
 
-  penalises-level : (due : ℕ) → On (Level x f) (eventOf n f (PenaltyDue (f .seller) (f .buyer) due) 13 0)
+  penalises-kept : (due : ℕ) → On (FreeKept x f) (eventOf n f (PenaltyDue (f .seller) (f .buyer) due) 13 0)
   unfolding moneyOf heldFrom held recordOf
-  penalises-level due = event (record { level = omega (arith, none-held, none-bought 0, none-sold 0) })
+  penalises-kept due = event (record { kept = omega (arith, none-held, none-bought 0, none-sold 0) })
 
-  cancels-level : On (Level x f) (eventOf n f Idle 14 0)
+  cancels-kept : On (FreeKept x f) (eventOf n f Idle 14 0)
   unfolding moneyOf heldFrom held recordOf
-  cancels-level = event (record { level = omega (arith, none-held, none-bought 0, none-sold 0, fenFrom-zero x 0) })
+  cancels-kept = event (record { kept = omega (arith, none-held, none-bought 0, none-sold 0, fenFrom-zero x 0) })
 
-  fines-level : (passed : ℕ) → On (Level x f) (eventOf n f Idle 15 passed)
+  fines-kept : (passed : ℕ) → On (FreeKept x f) (eventOf n f Idle 15 passed)
   unfolding moneyOf heldFrom held recordOf
-  fines-level passed = event (record { level = omega (arith, none-held, none-bought passed, none-sold passed, fenFrom-zero x 0) })
+  fines-kept passed = event (record { kept = omega (arith, none-held, none-bought passed, none-sold passed, fenFrom-zero x 0) })
 
-close-level : (z : Zone) (c : Call) (n x : ℕ) (f : Record) → hasPart (z .day) x f ≡ false → On (Level x f) (closeLot (viewOf z (c .account) f) n f)
+close-free-kept : (z : Zone) (c : Call) (n x : ℕ) (f : Record) → hasPart (z .day) x f ≡ false → On (FreeKept x f) (closeLot (viewOf z (c .account) f) n f)
 unfolding closeLot viewOf
-close-level z c n x f h =
+close-free-kept z c n x f h =
     let money : Bool = hasMoney (viewOf z (c .account) f) f in
     only (leb (f .due) (z .day)) _ λ due.
     chosen (among (f .state) (4 ∷ [])) _ _
-    (λ s. let A = apart (z .day) x f (worked f 4 refl (among-one 4 s)) due h in chosen money _ _ (λ _. settles-level x n f A) (λ _. defaults-level x n f A)) λ _.
+    (λ s. let A = apart (z .day) x f (worked f 4 refl (among-one 4 s)) due h in chosen money _ _ (λ _. settles-kept x n f A) (λ _. defaults-kept x n f A)) λ _.
     chosen (among (f .state) (3 ∷ [])) _ _
-    (λ s. let A = apart (z .day) x f (worked f 3 refl (among-one 3 s)) due h in chosen money _ _ (λ _. penalises-level x n f A _) (λ _. cancels-level x n f A)) λ _.
-    only (among (f .state) (7 ∷ [])) _ (λ s. fines-level x n f (apart (z .day) x f (worked f 7 refl (among-one 7 s)) due h) _)
+    (λ s. let A = apart (z .day) x f (worked f 3 refl (among-one 3 s)) due h in chosen money _ _ (λ _. penalises-kept x n f A _) (λ _. cancels-kept x n f A)) λ _.
+    only (among (f .state) (7 ∷ [])) _ (λ s. fines-kept x n f (apart (z .day) x f (worked f 7 refl (among-one 7 s)) due h) _)
 
 -- who is asked for something has a part
 owing-part : (day x : ℕ) (f : Record) → owesPenalty day x f ≡ true → hasPart day x f ≡ true
@@ -341,8 +341,8 @@ buying-part day x f h =
     either false = refl
 
 -- a lot in which x has no part asks it for nothing
-none-asked : (day x : ℕ) (f : Record) → hasPart day x f ≡ false → lotAsks day x f ≡ 0
-none-asked day x f h =
+none-owed : (day x : ℕ) (f : Record) → hasPart day x f ≡ false → owedFor day x f ≡ 0
+none-owed day x f h =
     omega (arith, no-more (owesPenalty day x f) perReceipt (λ e. sym (owing-part day x f e) ∙ h), no-more (buysDue day x f) (aboveDeposit f) (λ e. sym (buying-part day x f e) ∙ h))
   where
     no-more : (b : Bool) (n : ℕ) → (b ≡ true → true ≡ false) → cond b n 0 ≡ 0
@@ -381,11 +381,11 @@ module _ (x k : ℕ) (px : 0 < x) where
   passed-over S = record { trade = S .trade; lacks = S .lacks; others = λ j a b q. S .others j (omega arith) b q }
 
   -- and after the event of another lot
-  still-short : {c : Call} {lo : ℕ} {z : Zone} {n : ℕ} {e : Entry} {r : Receipt} → Linked c lo z n e r → n ≢ k → Level x (recordOfReceipt z n) e r
+  still-short : {c : Call} {lo : ℕ} {z : Zone} {n : ℕ} {e : Entry} {r : Receipt} → Linked c lo z n e r → n ≢ k → FreeKept x (recordOfReceipt z n) e r
       → Short n z → Short (suc n) (posted z e r)
   unfolding posted
   still-short {z = z} {n = n} {e = e} {r = r} L o E S =
-      let free : freeOf (posted z e r .accounts) x .0 ≡ freeOf (z .accounts) x .0 = omega (arith, free-after x px L, E .level) in
+      let free : freeOf (posted z e r .accounts) x .0 ≡ freeOf (z .accounts) x .0 = omega (arith, free-after x px L, E .kept) in
       record {
         trade = rw (day, same k (λ q. o (sym q))) (S .trade);
         lacks = rw (free, same k (λ q. o (sym q))) (S .lacks);
@@ -399,28 +399,28 @@ module _ (x k : ℕ) (px : 0 < x) where
       same j q = ap recordOf (receipt-beside z e r j (rw (L .fit .entry .lot) q))
 
   -- where no lot from n on asks anything but lot k, they ask no more than it does
-  none-more : (day more n : ℕ) (l : List Receipt) → ((j : ℕ) → n ≤ j → j < n + more → lotAsks day x (recordOf (receiptOfNumber l j)) ≡ 0) → asksFrom day x more n l ≡ 0
-  unfolding asksFrom
+  none-more : (day more n : ℕ) (l : List Receipt) → ((j : ℕ) → n ≤ j → j < n + more → owedFor day x (recordOf (receiptOfNumber l j)) ≡ 0) → owedFrom day x more n l ≡ 0
+  unfolding owedFrom
   none-more day zero n l h = refl
   none-more day (suc more) n l h = omega (arith, h n (omega arith) (omega arith), none-more day more (suc n) l (λ j a b. h j (omega arith) (omega arith)))
 
-  one-asked : (day more n : ℕ) (l : List Receipt) → ((j : ℕ) → n ≤ j → j < n + more → j ≢ k → lotAsks day x (recordOf (receiptOfNumber l j)) ≡ 0)
-      → asksFrom day x more n l ≤ lotAsks day x (recordOf (receiptOfNumber l k))
-  unfolding asksFrom
-  one-asked day zero n l h = omega arith
-  one-asked day (suc more) n l h = go (ℕ-discrete n k) (one-asked day more (suc n) l (λ j a b. h j (omega arith) (omega arith)))
+  one-owed : (day more n : ℕ) (l : List Receipt) → ((j : ℕ) → n ≤ j → j < n + more → j ≢ k → owedFor day x (recordOf (receiptOfNumber l j)) ≡ 0)
+      → owedFrom day x more n l ≤ owedFor day x (recordOf (receiptOfNumber l k))
+  unfolding owedFrom
+  one-owed day zero n l h = omega arith
+  one-owed day (suc more) n l h = go (ℕ-discrete n k) (one-owed day more (suc n) l (λ j a b. h j (omega arith) (omega arith)))
     where
-      go : Dec (n ≡ k) → asksFrom day x more (suc n) l ≤ lotAsks day x (recordOf (receiptOfNumber l k))
-          → lotAsks day x (recordOf (receiptOfNumber l n)) + asksFrom day x more (suc n) l ≤ lotAsks day x (recordOf (receiptOfNumber l k))
+      go : Dec (n ≡ k) → owedFrom day x more (suc n) l ≤ owedFor day x (recordOf (receiptOfNumber l k))
+          → owedFor day x (recordOf (receiptOfNumber l n)) + owedFrom day x more (suc n) l ≤ owedFor day x (recordOf (receiptOfNumber l k))
       go (yes e) i =
-          let none : asksFrom day x more (suc n) l ≡ 0 = none-more day more (suc n) l (λ j a b. h j (omega arith) (omega arith) (omega arith)) in
-          let same : lotAsks day x (recordOf (receiptOfNumber l n)) ≡ lotAsks day x (recordOf (receiptOfNumber l k)) = ap (λ (j : ℕ). lotAsks day x (recordOf (receiptOfNumber l j))) e in
+          let none : owedFrom day x more (suc n) l ≡ 0 = none-more day more (suc n) l (λ j a b. h j (omega arith) (omega arith) (omega arith)) in
+          let same : owedFor day x (recordOf (receiptOfNumber l n)) ≡ owedFor day x (recordOf (receiptOfNumber l k)) = ap (λ (j : ℕ). owedFor day x (recordOf (receiptOfNumber l j))) e in
           omega (arith, none, same)
       go (no e) i = omega (arith, h n (omega arith) (omega arith) e)
 
   -- a buyer with less free money than its trade asks lacks the trade's money
-  lacking : (day : ℕ) (f : Record) (free : ℕ) → buysDue day x f ≡ true → free < lotAsks day x f → free + perReceipt < full f .0
-  unfolding passesBy
+  lacking : (day : ℕ) (f : Record) (free : ℕ) → buysDue day x f ≡ true → free < owedFor day x f → free + perReceipt < full f .0
+  unfolding excess
   lacking day f free h l =
       let t = both (within 3 4 (f .state) && isDue day f) (eqb x (f .buyer)) h in
       let u = both (within 3 4 (f .state)) (isDue day f) (t .0) in
@@ -447,7 +447,7 @@ module _ (x k : ℕ) (px : 0 < x) where
         go o NoEvent q g = g z G (passed-over S)
         go o (Event e r) q g =
             let L : Linked c n z n e r = linked n e r a (omega arith) (omega arith) (close-visits c kind z n) q G in
-            let E : Level x (recordOfReceipt z n) e r = on-event (close-level z c n x (recordOfReceipt z n) (S .others n (omega arith) (omega arith) o)) (sym (close-rule c kind z n) ∙ q) in
+            let E : FreeKept x (recordOfReceipt z n) e r = on-event (close-free-kept z c n x (recordOfReceipt z n) (S .others n (omega arith) (omega arith) o)) (sym (close-rule c kind z n) ∙ q) in
             later (g (posted z e r) (L .next) (still-short L o E S))
 
         -- its own lot, or another
@@ -467,8 +467,8 @@ module _ (x k : ℕ) (px : 0 < x) where
         → DefaultOf x k (sweep (ruleAt c) receiptCount 1 z .entries)
     close-short z G low high trade others h =
         let f : Record = recordOfReceipt z k in
-        let all = asks-all (z .day) x (z .receipts) (G .sized .receipts) in
-        let one = one-asked (z .day) receiptCount 1 (z .receipts) (λ j a b q. none-asked (z .day) x (recordOfReceipt z j) (others j a (omega arith) q)) in
+        let all = owed-all (z .day) x (z .receipts) (G .sized .receipts) in
+        let one = one-owed (z .day) receiptCount 1 (z .receipts) (λ j a b q. none-owed (z .day) x (recordOfReceipt z j) (others j a (omega arith) q)) in
         sweep-default receiptCount 1 z (omega arith) (omega arith) low (omega arith) G
         (record {
           trade = trade;

@@ -27,15 +27,15 @@ use Rattle.rules.specs.Steps.{numberOn}
 use Rattle.rules.specs.View.{freeOf, receiptOfNumber, recordOfReceipt, viewOf}
 use Rattle.image.specs.Image.{validImage, decode}
 use Rattle.answers.specs.Buffers.{callIn, entriesIn}
-use Rattle.shortfalls.specs.Laws.Asked.{passes-covers, passes-exact}
+use Rattle.shortfalls.specs.Laws.Owed.{excess-covers, excess-exact}
 use Rattle.shortfalls.specs.Laws.Figures.{length-figures, figure-there, shortfall-le}
-use Rattle.shortfalls.specs.Shortfalls.{passesBy, penaltiesDue, paymentsDue, shortfall, figuresLength, figureBytes}
+use Rattle.shortfalls.specs.Shortfalls.{excess, penaltiesDue, paymentsDue, shortfall, figuresLength, figureBytes}
 use Rattle.crz.specs.Figures.{ShortfallsReturned}
 use Rattle.crz.specs.Laws.Figures.{FiguresLeft, too-short, bad-image, written, figures-left, image-left}
 use Rattle.crz.specs.Laws.Valid.{good-image}
 use Rattle.claims.specs.Cutting.{lotIn}
 use Rattle.claims.specs.Laws.Calls.{accepted-call, new-zone, read-back}
-use Rattle.claims.specs.Laws.Covered.{close-quiet, close-short}
+use Rattle.claims.specs.Laws.Covered.{close-no-default, close-short}
 use Rattle.claims.specs.Shortfalls.{ImageLeft, PastLeft, RefusedBy, tooShort, badImage, RefusesAlone, figureIn, FiguresRead, NoneInAfternoon, PaidIn, noCall, byCall, Closed, NoDefaultOf, PaidInSuffices, DefaultOf, FenLessDefaults}
 
 -- ── What the entry leaves ──────────────────────────────────────────────────────────────────────
@@ -146,29 +146,29 @@ closed-zone paid answer′ C =
 
 -- ── The two claims ─────────────────────────────────────────────────────────────────────────────
 
--- what is asked of x
-abbrev asked : Zone → ℕ → ℕ
-asked z x = penaltiesDue (z .day) x (z .receipts) + paymentsDue (z .day) x (z .receipts)
+-- what x owes
+abbrev owed : Zone → ℕ → ℕ
+owed z x = penaltiesDue (z .day) x (z .receipts) + paymentsDue (z .day) x (z .receipts)
 
 -- in a morning the figure is what that passes the free money by
-morning-figure : (z : Zone) (x : ℕ) → z .afternoon ≡ false → shortfall z x ≡ passesBy (asked z x) (freeOf (z .accounts) x .0)
+morning-shortfall : (z : Zone) (x : ℕ) → z .afternoon ≡ false → shortfall z x ≡ excess (owed z x) (freeOf (z .accounts) x .0)
 unfolding shortfall
-morning-figure z x m = rw m
+morning-shortfall z x m = rw m
 
 -- a pay-in moves nothing of it
-asked-same : {z : Zone} {x n : ℕ} {y : Zone} → PaidZone z x n y → asked y x ≡ asked z x
-asked-same P = rw (P .day, P .receipts)
+owed-same : {z : Zone} {x n : ℕ} {y : Zone} → PaidZone z x n y → owed y x ≡ owed z x
+owed-same P = rw (P .day, P .receipts)
 
 pub paid-in-suffices : PaidInSuffices
 paid-in-suffices image figures image′ figures′ R x a b paid I answer′ C =
     let z : Zone = decode image in
     let K = closed-zone paid answer′ C in
     let P : PaidZone z x (figureIn figures′ x) (decode paid) = paid-zone (was-written image figures image′ figures′ R .valid) I in
-    let figure : figureIn figures′ x ≡ passesBy (asked z x) (freeOf (z .accounts) x .0) =
-    figures-read image figures image′ figures′ R x a b .is ∙ morning-figure z x (sym (P .afternoon) ∙ K .morning) in
+    let figure : figureIn figures′ x ≡ excess (owed z x) (freeOf (z .accounts) x .0) =
+    figures-read image figures image′ figures′ R x a b .is ∙ morning-shortfall z x (sym (P .afternoon) ∙ K .morning) in
     subst (NoDefaultOf x) (sym (K .entries))
-    (close-quiet x a (K .call) (K .kind) (decode paid) (K .good)
-    (omega (arith, asked-same P, P .free, figure, passes-covers (asked z x) (freeOf (z .accounts) x .0))))
+    (close-no-default x a (K .call) (K .kind) (decode paid) (K .good)
+    (omega (arith, owed-same P, P .free, figure, excess-covers (owed z x) (freeOf (z .accounts) x .0))))
 
 pub fen-less-defaults : FenLessDefaults
 unfolding decode
@@ -176,11 +176,11 @@ fen-less-defaults image figures image′ figures′ R x a b k O n e paid I answe
     let z : Zone = decode image in
     let K = closed-zone paid answer′ C in
     let P : PaidZone z x n (decode paid) = paid-zone (was-written image figures image′ figures′ R .valid) I in
-    let figure : suc n ≡ passesBy (asked z x) (freeOf (z .accounts) x .0) =
-    sym e ∙ figures-read image figures image′ figures′ R x a b .is ∙ morning-figure z x (sym (P .afternoon) ∙ K .morning) in
+    let figure : suc n ≡ excess (owed z x) (freeOf (z .accounts) x .0) =
+    sym e ∙ figures-read image figures image′ figures′ R x a b .is ∙ morning-shortfall z x (sym (P .afternoon) ∙ K .morning) in
     let same : (j : ℕ) → recordOfReceipt (decode paid) j ≡ lotIn image j = λ j. ap (λ (l : List Receipt). recordOf (receiptOfNumber l j)) (P .receipts) in
     subst (DefaultOf x k) (sym (K .entries))
     (close-short x k a (K .call) (K .kind) (decode paid) (K .good) (O .low) (O .high)
     (rw (P .day, same k) (O .trade))
     (λ j p q o. rw (P .day, same j) (O .others j p q o))
-    (omega (arith, asked-same P, P .free, figure, passes-exact (asked z x) (freeOf (z .accounts) x .0) (omega (arith, figure)))))
+    (omega (arith, owed-same P, P .free, figure, excess-exact (owed z x) (freeOf (z .accounts) x .0) (omega (arith, figure)))))

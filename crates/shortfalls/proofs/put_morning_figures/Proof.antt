@@ -29,8 +29,8 @@ abbrev μ-loop : tie.MeasureT-loop
 day-in-requires : tie.Need-day-in-requires Inv-loop μ-loop
 day-in-requires c κs = valid-long _ (c .before .before .pre .0)
 
-asked-sums-requires : tie.Need-asked-sums-requires Inv-loop μ-loop
-asked-sums-requires c κs = c .before .before .before .pre .0
+owed-sums-requires : tie.Need-owed-sums-requires Inv-loop μ-loop
+owed-sums-requires c κs = c .before .before .before .pre .0
 
 loop-holds : tie.Need-loop-holds Inv-loop μ-loop
 unfolding tableBytes
@@ -39,14 +39,14 @@ loop-holds c = (omega arith, refl)
 account-at-requires : tie.Need-account-at-requires Inv-loop μ-loop
 account-at-requires c κs = (valid-long _ (c .before .before .before .before .before .before .pre .0), omega arith)
 
-mul-passes-by : tie.Need-mul-passes-by Inv-loop μ-loop
-mul-passes-by c = search needs
+mul-excess : tie.Need-mul-excess Inv-loop μ-loop
+mul-excess c = search needs
 
-array-copy-out-passes-by : tie.Need-array-copy-out-passes-by Inv-loop μ-loop
-array-copy-out-passes-by c = search needs
+array-copy-out-excess : tie.Need-array-copy-out-excess Inv-loop μ-loop
+array-copy-out-excess c = search needs
 
-passes-by-requires : tie.Need-passes-by-requires Inv-loop μ-loop
-passes-by-requires c κs = search needs
+excess-requires : tie.Need-excess-requires Inv-loop μ-loop
+excess-requires c κs = search needs
 
 mul-put-u64 : tie.Need-mul-put-u64 Inv-loop μ-loop
 mul-put-u64 c = search needs
@@ -67,14 +67,14 @@ loop-again c =
     let l = c .before .before .before .before .before .before .before .before .loop in
     let all = figuresOf (decode s) in
     let h : l .i < length all = rw (length-table accountCount _) (omega arith) in
-    let f : c .before .before .before .before .passes-by .result .0 ≡ getD all (l .i) 0 =
-    ap (λ (n : Fen). n .0) (c .before .before .before .before .passes-by .ensures)
-    ∙ rw (c .before .before .before .before .before .before .before .before .before .asked-sums .ensures, c .before .before .before .before .before .before .before .before .before .before .day-in .ensures, c .before .before .before .before .before .before .account-at .ensures) (sym (morning-figure s (c .before .before .before .before .before .before .before .before .before .before .before .before .before .pre .0) (c .before .before .before .before .before .before .before .before .before .before .before .before .before .pre .1) (l .i) (omega arith)))
+    let f : c .before .before .before .before .excess .result .0 ≡ getD all (l .i) 0 =
+    ap (λ (n : Fen). n .0) (c .before .before .before .before .excess .ensures)
+    ∙ rw (c .before .before .before .before .before .before .before .before .before .owed-sums .ensures, c .before .before .before .before .before .before .before .before .before .before .day-in .ensures, c .before .before .before .before .before .before .account-at .ensures) (sym (morning-figure s (c .before .before .before .before .before .before .before .before .before .before .before .before .before .pre .0) (c .before .before .before .before .before .before .before .before .before .before .before .before .before .pre .1) (l .i) (omega arith)))
     ∙ sym (getD-table accountCount (λ k. shortfall (decode s) (suc k)) (l .i) 0 (omega arith)) in
     let place : 0 + l .i * figureLength ≡ l .i * figureLength = omega arith in (
       omega arith,
       c .before .before .put-u64 .ensures
-          ∙ ap (λ (b : List ℕ). sets b (l .i * figureLength) (leBytes figureLength (c .before .before .before .before .passes-by .result .0))) (l .inv .1)
+          ∙ ap (λ (b : List ℕ). sets b (l .i * figureLength) (leBytes figureLength (c .before .before .before .before .excess .result .0))) (l .inv .1)
           ∙ ap (λ (n : ℕ). sets (sets old 0 (tableBytes (leBytes figureLength) (take (l .i) all))) (l .i * figureLength) (leBytes figureLength n)) f
           ∙ (rw place at (put-more (leBytes figureLength) figureLength figure-wide old 0 all (l .i) 0 h)),
     )
@@ -97,12 +97,12 @@ put-morning-figures-spec =
     Inv-loop
     μ-loop
     day-in-requires
-    asked-sums-requires
+    owed-sums-requires
     loop-holds
     account-at-requires
-    mul-passes-by
-    array-copy-out-passes-by
-    passes-by-requires
+    mul-excess
+    array-copy-out-excess
+    excess-requires
     mul-put-u64
     put-u64-requires
     add-i

@@ -28,28 +28,28 @@ use Rattle.rules.specs.Tables.{nth}
 use Rattle.rules.specs.View.{freeOf}
 use Rattle.verdict.specs.Laws.Sums.{sumAt, sum-is, asked-le}
 use Rattle.verdict.specs.Sums.{sumsBy}
-use Rattle.shortfalls.specs.Shortfalls.{passesBy, penaltiesDue, paymentsDue, shortfall, figureLength, figuresLength, figuresOf, figureBytes}
-use Rattle.shortfalls.specs.Walk.{validAsked, askedSums}
-use Rattle.shortfalls.specs.Laws.Asked.{passes-le, asked-known, asked-small, asked-due}
+use Rattle.shortfalls.specs.Shortfalls.{excess, penaltiesDue, paymentsDue, shortfall, figureLength, figuresLength, figuresOf, figureBytes}
+use Rattle.shortfalls.specs.Walk.{validOwed, owedSums}
+use Rattle.shortfalls.specs.Laws.Owed.{excess-le, owed-known, owed-small, owed-due}
 
 -- ── By the walk's sums ─────────────────────────────────────────────────────────────────────────
 
 module _ (s : List ℕ) (ok : validImage s ≡ true) where
-  -- what is asked of account suc p is its sum
-  sum-asked : (p : ℕ) → p < accountCount →
-      sumAt (askedSums (dayIn s) s) p ≡ penaltiesDue (dayIn s) (suc p) (receiptsIn s) + paymentsDue (dayIn s) (suc p) (receiptsIn s)
+  -- what account suc p owes is its sum
+  sum-owed : (p : ℕ) → p < accountCount →
+      sumAt (owedSums (dayIn s) s) p ≡ penaltiesDue (dayIn s) (suc p) (receiptsIn s) + paymentsDue (dayIn s) (suc p) (receiptsIn s)
   unfolding decode
-  sum-asked p h =
+  sum-owed p h =
       let day = dayIn s in
-      ap (λ (l : List Record). sumAt (sumsBy (validAsked day) l) p) (sym (records-same s ok))
-      ∙ sum-is (validAsked day) (asked-known day) (map recordOf (receiptsIn s)) p h
-      ∙ asked-due day (suc p) (receiptsIn s) (zone-in (decode s) (valid-decode s ok) .records)
+      ap (λ (l : List Record). sumAt (sumsBy (validOwed day) l) p) (sym (records-same s ok))
+      ∙ sum-is (validOwed day) (owed-known day) (map recordOf (receiptsIn s)) p h
+      ∙ owed-due day (suc p) (receiptsIn s) (zone-in (decode s) (valid-decode s ok) .records)
 
-  -- in a morning its figure is what passes its free money
+  -- in a morning its figure is what that has above its free money
   pub morning-figure : afternoonIn s ≡ false → (p : ℕ) → p < accountCount →
-      shortfall (decode s) (suc p) ≡ passesBy (sumAt (askedSums (dayIn s) s) p) (accountIn (accountRun s p) .free .0)
+      shortfall (decode s) (suc p) ≡ excess (sumAt (owedSums (dayIn s) s) p) (accountIn (accountRun s p) .free .0)
   unfolding shortfall freeOf nth decode
-  morning-figure m p h = rw (m, sum-asked p h, account-in-place s p h)
+  morning-figure m p h = rw (m, sum-owed p h, account-in-place s p h)
 
 -- ── In bytes ───────────────────────────────────────────────────────────────────────────────────
 
@@ -79,19 +79,19 @@ figures-put z old h =
 -- what valid receipts ask of one account is no more than their full payments can be together
 due-le : (day x : ℕ) (rs : List Receipt) → all (λ r. recordValid (recordOf r)) rs ≡ true → penaltiesDue day x rs + paymentsDue day x rs ≤ mostFull * length rs
 due-le day x rs v =
-    omega (arith, asked-due day x rs v, asked-le (validAsked day) (asked-known day) mostFull (asked-small day) x (map recordOf rs), length-map rs recordOf)
+    omega (arith, owed-due day x rs v, asked-le (validOwed day) (owed-known day) mostFull (owed-small day) x (map recordOf rs), length-map rs recordOf)
 
 -- so that a figure is an amount that one call may name
 pub shortfall-le : (z : Zone) → Good z → (x : ℕ) → shortfall z x ≤ 10 ^ 12
 unfolding shortfall
 shortfall-le z G x = go (z .afternoon)
   where
-    go : (b : Bool) → cond b 0 (passesBy (penaltiesDue (z .day) x (z .receipts) + paymentsDue (z .day) x (z .receipts)) (freeOf (z .accounts) x .0)) ≤ 10 ^ 12
+    go : (b : Bool) → cond b 0 (excess (penaltiesDue (z .day) x (z .receipts) + paymentsDue (z .day) x (z .receipts)) (freeOf (z .accounts) x .0)) ≤ 10 ^ 12
     go true = omega arith
     go false =
         omega (
           arith,
-          passes-le (penaltiesDue (z .day) x (z .receipts) + paymentsDue (z .day) x (z .receipts)) (freeOf (z .accounts) x .0),
+          excess-le (penaltiesDue (z .day) x (z .receipts) + paymentsDue (z .day) x (z .receipts)) (freeOf (z .accounts) x .0),
           due-le (z .day) x (z .receipts) (G .records),
           G .sized .receipts,
         )

@@ -49,7 +49,7 @@ returns-2 : tie.Need-returns-2
 returns-2 c =
     let h : blank (rec (c .before .before .before .before .before .before .before)) ≡ false = sym (c .before .before .blank-at .ensures) ∙ c .before .if2 .left in
     let v : recordValid (rec (c .before .before .before .before .before .before .before)) ≡ false = unowned-valid _ (omega (arith, c .before .before .before .before .owner-at .ensures)) ∙ h in
-    (c .no-hold2 .ensures ∙ sym (hold-none _ v), mark-by (c .before .before .before .before .before .before .before) v)
+    (c .no-hold2 .ensures ∙ sym (hold-none holdOf _ v), mark-by (c .before .before .before .before .before .before .before) v)
 
 registered-ok-requires : tie.Need-registered-ok-requires
 registered-ok-requires c κs = search needs
@@ -66,7 +66,7 @@ same-length-2 c = search needs
 returns-3 : tie.Need-returns-3
 returns-3 c =
     let v : recordValid (rec (c .before .before .before .before .before .before .before)) ≡ false = sym (c .before .before .registered-ok .ensures) ∙ not-true _ (c .before .if3 .taken) in
-    (c .no-hold3 .ensures ∙ sym (hold-none _ v), mark-by (c .before .before .before .before .before .before .before) v)
+    (c .no-hold3 .ensures ∙ sym (hold-none holdOf _ v), mark-by (c .before .before .before .before .before .before .before) v)
 
 record-at-requires : tie.Need-record-at-requires
 record-at-requires c κs = search needs
@@ -77,7 +77,7 @@ hold-of-requires c κs = ap recordValid (c .record-at .ensures) ∙ sym (c .befo
 returns-4 : tie.Need-returns-4
 returns-4 c =
     let v : recordValid (rec (c .before .before .before .before .before .before .before .before)) ≡ true = sym (c .before .before .before .registered-ok .ensures) ∙ not-false _ (c .before .before .if3 .left) in
-    (c .hold-of .ensures ∙ ap holdOf (c .before .record-at .ensures) ∙ sym (hold-valid _ v), mark-by (c .before .before .before .before .before .before .before .before) v)
+    (c .hold-of .ensures ∙ ap holdOf (c .before .record-at .ensures) ∙ sym (hold-valid holdOf _ v), mark-by (c .before .before .before .before .before .before .before .before) v)
 
 pub hold-at-spec : {M : Type 1} → statement M
 hold-at-spec =

@@ -22,7 +22,7 @@ use Rattle.zone.specs.Valid.{all, blank, recordValid, noReceipt}
 use Rattle.zone.specs.Laws.Facts.{blank-is, none-valid, bounds}
 use Rattle.zone.specs.Laws.Held.{held-le, fenFrom-same, fenFrom-other, fenFrom-le}
 use Rattle.zone.specs.Laws.Tests.{both}
-use Rattle.verdict.specs.Sums.{noHold, validHold, addTo, sumsBy, validOf}
+use Rattle.verdict.specs.Sums.{noHold, ofValid, validHold, addTo, sumsBy, validOf}
 
 -- the sum at a place
 abbrev pub sumAt : List Fen → ℕ → ℕ
@@ -102,27 +102,27 @@ module _ (holds : Record → Hold) where
 -- ── What valid records hold ────────────────────────────────────────────────────────────────────
 
 -- by the verdict on the record
-by-verdict : (P : Hold → Type 0) (r : Record) → (recordValid r ≡ true → P (holdOf r)) → P noHold → P (validHold r)
-unfolding validHold
-by-verdict P r v n = go (recordValid r) refl
+pub by-verdict : (P : Hold → Type 0) (holds : Record → Hold) (r : Record) → (recordValid r ≡ true → P (holds r)) → P noHold → P (ofValid holds r)
+unfolding ofValid
+by-verdict P holds r v n = go (recordValid r) refl
   where
-    go : (b : Bool) → recordValid r ≡ b → P (cond b (holdOf r) noHold)
+    go : (b : Bool) → recordValid r ≡ b → P (cond b (holds r) noHold)
     go true e = v e
     go false e = n
 
 pub hold-known : (r : Record) → validHold r .from ≤ accountCount
-hold-known r = by-verdict (λ h. h .from ≤ accountCount) r (λ v. bounds r v .buyer) (omega arith)
+hold-known r = by-verdict (λ h. h .from ≤ accountCount) holdOf r (λ v. bounds r v .buyer) (omega arith)
 
 pub hold-small : (r : Record) → validHold r .fen .0 ≤ mostFull
-hold-small r = by-verdict (λ h. h .fen .0 ≤ mostFull) r (λ v. held-le r v) (omega arith)
+hold-small r = by-verdict (λ h. h .fen .0 ≤ mostFull) holdOf r (λ v. held-le r v) (omega arith)
 
-pub hold-valid : (r : Record) → recordValid r ≡ true → validHold r ≡ holdOf r
-unfolding validHold
-hold-valid r v = rw v
+pub hold-valid : (holds : Record → Hold) (r : Record) → recordValid r ≡ true → ofValid holds r ≡ holds r
+unfolding ofValid
+hold-valid holds r v = rw v
 
-pub hold-none : (r : Record) → recordValid r ≡ false → validHold r ≡ noHold
-unfolding validHold
-hold-none r v = rw v
+pub hold-none : (holds : Record → Hold) (r : Record) → recordValid r ≡ false → ofValid holds r ≡ noHold
+unfolding ofValid
+hold-none holds r v = rw v
 
 -- a record without an owner is valid where it is blank
 pub unowned-valid : (r : Record) → r .owner ≡ 0 → recordValid r ≡ blank r
@@ -134,7 +134,7 @@ pub blank-valid : (r : Record) → blank r ≡ true → recordValid r ≡ true
 blank-valid r b = ap recordValid (blank-is r b) ∙ none-valid
 
 none-hold : validHold (recordOf noReceipt) ≡ noHold
-unfolding validHold recordValid blank recordOf held
+unfolding ofValid recordValid blank recordOf held
 none-hold = refl
 
 pub blank-hold : (r : Record) → blank r ≡ true → validHold r ≡ noHold
@@ -142,7 +142,7 @@ blank-hold r b = ap validHold (blank-is r b) ∙ none-hold
 
 -- the walk's question is that of `heldSum`, put to the valid records
 asked-valid : (x : ℕ) (rs : List Record) → asked validHold x rs ≡ heldSum (λ r. r) x (validOf rs)
-unfolding asked heldSum heldFrom validOf validHold
+unfolding asked heldSum heldFrom validOf ofValid
 asked-valid x [] = refl
 asked-valid x (r ∷ rs) = go (recordValid r) (asked-valid x rs)
   where

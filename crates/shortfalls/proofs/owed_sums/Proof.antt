@@ -1,4 +1,4 @@
--- What the lots from i on ask is added up; the measure is the lots that are left.
+-- What is owed for the lots from i on is added up; the measure is the lots that are left.
 use mathlib.Core.Bool.{true}
 use mathlib.Core.List.{List}
 use mathlib.Core.Path.{_≡_, sym, ap, _∙_}
@@ -13,27 +13,22 @@ use Rattle.units.specs.Ranges.{accountCount, receiptCount}
 use Rattle.zone.specs.Valid.{recordValid}
 use Rattle.image.specs.Laws.RoundTrip.{valid-long, record-ok}
 use Rattle.verdict.specs.Sums.{sumsBy}
-use Rattle.verdict.specs.Laws.Sums.{sumAt, add-some, add-none}
+use Rattle.verdict.specs.Laws.Sums.{sumAt, add-some, add-none, hold-valid}
 use Rattle.verdict.specs.Laws.Walk.{rec, lastRecords, sums-none, sums-turn, sum-room}
-use Rattle.shortfalls.specs.Walk.{askedOf, validAsked}
-use Rattle.shortfalls.specs.Laws.Asked.{asked-known, asked-small, asked-valid}
+use Rattle.shortfalls.specs.Walk.{owedOf, validOwed}
+use Rattle.shortfalls.specs.Laws.Owed.{owed-known, owed-small}
 use borrow.Author.Needs.{needs}
-use Rattle.shortfalls.proofs.asked_sums.Statement.{statement}
-use Rattle.shortfalls.proofs.asked_sums.Tie as tie
-use Rattle.shortfalls.proofs.asked_sums.Reads as reads
-use Rattle.shortfalls.proofs.asked_sums.Lts as lts
-use Rattle.image.proofs.record_at.Reads as record-at-reads
-use Rattle.shortfalls.proofs.asked_of.Reads as asked-of-reads
-use Rattle.verdict.proofs.plus.Reads as plus-reads
+use Rattle.shortfalls.proofs.owed_sums.Statement.{statement}
+use Rattle.shortfalls.proofs.owed_sums.Tie as tie
 
 abbrev Inv-loop : tie.InvT-loop
-Inv-loop image day sums₀ i₀ sums i = (i ≤ receiptCount) × (sums ≡ sumsBy (validAsked day) (lastRecords image i))
+Inv-loop image day sums₀ i₀ sums i = (i ≤ receiptCount) × (sums ≡ sumsBy (validOwed day) (lastRecords image i))
 
 abbrev μ-loop : tie.MeasureT-loop
 μ-loop image day sums₀ i₀ sums i = i
 
 loop-holds : tie.Need-loop-holds Inv-loop μ-loop
-loop-holds c = (omega arith, sums-none (now (c .before .args .image)) (validAsked (c .before .args .day)))
+loop-holds c = (omega arith, sums-none (now (c .before .args .image)) (validOwed (c .before .args .day)))
 
 sub-i : tie.Need-sub-i Inv-loop μ-loop
 sub-i c = search needs
@@ -41,8 +36,8 @@ sub-i c = search needs
 record-at-requires : tie.Need-record-at-requires Inv-loop μ-loop
 record-at-requires c κs = (valid-long _ (c .before .before .before .pre), omega arith)
 
-asked-of-requires : tie.Need-asked-of-requires Inv-loop μ-loop
-asked-of-requires c κs = ap recordValid (c .record-at .ensures) ∙ record-ok _ (c .before .before .before .before .pre) (c .before .before .loop .i - 1) (omega arith)
+owed-of-requires : tie.Need-owed-of-requires Inv-loop μ-loop
+owed-of-requires c κs = ap recordValid (c .record-at .ensures) ∙ record-ok _ (c .before .before .before .before .pre) (c .before .before .loop .i - 1) (omega arith)
 
 cast-from : tie.Need-cast-from Inv-loop μ-loop
 cast-from c = search needs
@@ -53,20 +48,20 @@ sub-place c = search needs
 mul-plus : tie.Need-mul-plus Inv-loop μ-loop
 mul-plus c = search needs
 
--- what the lot asks, as the walk has it
-walked : (c : tie.After-asked-of Inv-loop μ-loop) →
-    c .asked-of .result ≡ validAsked (c .before .before .before .before .before .args .day) (rec (now (c .before .before .before .before .before .args .image)) (c .before .before .before .loop .i - 1))
+-- what is owed for the lot, as the walk has it
+walked : (c : tie.After-owed-of Inv-loop μ-loop) →
+    c .owed-of .result ≡ validOwed (c .before .before .before .before .before .args .day) (rec (now (c .before .before .before .before .before .args .image)) (c .before .before .before .loop .i - 1))
 walked c =
     let s = now (c .before .before .before .before .before .args .image) in
     let v : recordValid (rec s (c .before .before .before .loop .i - 1)) ≡ true = record-ok s (c .before .before .before .before .before .pre) (c .before .before .before .loop .i - 1) (omega arith) in
-    c .asked-of .ensures ∙ ap (askedOf (c .before .before .before .before .before .args .day)) (c .before .record-at .ensures) ∙ sym (asked-valid (c .before .before .before .before .before .args .day) _ v)
+    c .owed-of .ensures ∙ ap (owedOf (c .before .before .before .before .before .args .day)) (c .before .record-at .ensures) ∙ sym (hold-valid (owedOf (c .before .before .before .before .before .args .day)) _ v)
 
 -- it is from an account or from nobody, and small
-from-known : (c : tie.After-asked-of Inv-loop μ-loop) → c .asked-of .result .from ≤ accountCount
-from-known c = rw (walked c) (asked-known _ _)
+from-known : (c : tie.After-owed-of Inv-loop μ-loop) → c .owed-of .result .from ≤ accountCount
+from-known c = rw (walked c) (owed-known _ _)
 
-fen-small : (c : tie.After-asked-of Inv-loop μ-loop) → c .asked-of .result .fen .0 ≤ mostFull
-fen-small c = rw (walked c) (asked-small _ _)
+fen-small : (c : tie.After-owed-of Inv-loop μ-loop) → c .owed-of .result .fen .0 ≤ mostFull
+fen-small c = rw (walked c) (owed-small _ _)
 
 array-copy-out-plus : tie.Need-array-copy-out-plus Inv-loop μ-loop
 array-copy-out-plus c = omega (arith, from-known (c .before .before))
@@ -74,7 +69,7 @@ array-copy-out-plus c = omega (arith, from-known (c .before .before))
 plus-requires : tie.Need-plus-requires Inv-loop μ-loop
 plus-requires c κs =
     let day = c .before .before .before .before .before .before .before .before .args .day in
-    sum-room (now (c .before .before .before .before .before .before .before .before .args .image)) (validAsked day) (asked-known day) (asked-small day) (c .before .before .before .before .before .before .loop .i) _ (c .before .before .before .before .before .before .loop .inv .1) _ (omega (arith, from-known (c .before .before .before))) _ (fen-small (c .before .before .before))
+    sum-room (now (c .before .before .before .before .before .before .before .before .args .image)) (validOwed day) (owed-known day) (owed-small day) (c .before .before .before .before .before .before .loop .i) _ (c .before .before .before .before .before .before .loop .inv .1) _ (omega (arith, from-known (c .before .before .before))) _ (fen-small (c .before .before .before))
 
 mul-sums : tie.Need-mul-sums Inv-loop μ-loop
 mul-sums c = search needs
@@ -88,9 +83,9 @@ loop-less c = search needs
 loop-again : tie.Need-loop-again Inv-loop μ-loop
 loop-again c =
     let s = now (c .before .before .before .before .before .before .before .before .before .args .image) in
-    let holds = validAsked (c .before .before .before .before .before .before .before .before .before .args .day) in
+    let holds = validOwed (c .before .before .before .before .before .before .before .before .before .args .day) in
     let l = c .before .before .before .before .before .before .before .loop in
-    let h = c .before .before .before .before .asked-of .result in (
+    let h = c .before .before .before .before .owed-of .result in (
       omega arith,
       ap (set (l .sums) (h .from - 1)) (c .plus .ensures)
           ∙ ap (λ (m : List Fen). set m (h .from - 1) (fen (sumAt m (h .from - 1) + h .fen .0))) (l .inv .1)
@@ -104,9 +99,9 @@ loop-less-2 c = search needs
 loop-again-2 : tie.Need-loop-again-2 Inv-loop μ-loop
 loop-again-2 c =
     let s = now (c .before .before .before .before .before .before .before .args .image) in
-    let holds = validAsked (c .before .before .before .before .before .before .before .args .day) in
+    let holds = validOwed (c .before .before .before .before .before .before .before .args .day) in
     let l = c .before .before .before .before .before .loop in
-    let h = c .before .before .asked-of .result in (
+    let h = c .before .before .owed-of .result in (
       omega arith,
       l .inv .1 ∙ sym (add-none (h .from) (h .fen .0) (sumsBy holds (lastRecords s (l .i))) (c .if1 .left))
           ∙ sums-turn s holds (l .i) (omega arith) (omega arith) h (walked (c .before .before)),
@@ -116,10 +111,10 @@ returns : tie.Need-returns Inv-loop μ-loop
 returns c =
     let s = now (c .before .before .before .args .image) in
     let e : c .before .loop .i ≡ 0 = omega arith in
-    c .before .loop .inv .1 ∙ ap (λ (n : ℕ). sumsBy (validAsked (c .before .before .before .args .day)) (lastRecords s n)) e
+    c .before .loop .inv .1 ∙ ap (λ (n : ℕ). sumsBy (validOwed (c .before .before .before .args .day)) (lastRecords s n)) e
 
-pub asked-sums-spec : {M : Type 1} → statement M
-asked-sums-spec =
+pub owed-sums-spec : {M : Type 1} → statement M
+owed-sums-spec =
     tie.close
     (tie.spec
     Inv-loop
@@ -127,7 +122,7 @@ asked-sums-spec =
     loop-holds
     sub-i
     record-at-requires
-    asked-of-requires
+    owed-of-requires
     cast-from
     sub-place
     mul-plus

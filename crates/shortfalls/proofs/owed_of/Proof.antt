@@ -4,20 +4,20 @@ use mathlib.Core.Path.{_≡_}
 use borrow.Author.Tests.{eq-eqb, ne-eqb, le-leb, lt-leb}
 use Rattle.units.specs.Ranges.{within}
 use Rattle.zone.specs.Laws.Facts.{bounds}
-use Rattle.shortfalls.specs.Walk.{askedOf}
+use Rattle.shortfalls.specs.Walk.{owedOf}
 use borrow.Author.Needs.{needs}
-use Rattle.shortfalls.proofs.asked_of.Statement.{statement}
-use Rattle.shortfalls.proofs.asked_of.Tie as tie
+use Rattle.shortfalls.proofs.owed_of.Statement.{statement}
+use Rattle.shortfalls.proofs.owed_of.Tie as tie
 
 no-hold-requires : tie.Need-no-hold-requires
 no-hold-requires c κs = search needs
 
 returns : tie.Need-returns
-unfolding askedOf
+unfolding owedOf
 returns c = rw (lt-leb _ _ (c .before .if1 .taken), c .no-hold .ensures)
 
 returns-2 : tie.Need-returns-2
-unfolding askedOf
+unfolding owedOf
 returns-2 c = rw (le-leb _ _ (c .before .if1 .left), eq-eqb _ _ (c .if2 .taken))
 
 full-of-requires : tie.Need-full-of-requires
@@ -26,24 +26,24 @@ full-of-requires c κs = bounds (c .before .before .before .before .args .r) (c 
 deposit-per-receipt-requires : tie.Need-deposit-per-receipt-requires
 deposit-per-receipt-requires c κs = search needs
 
-passes-by-requires : tie.Need-passes-by-requires
-passes-by-requires c κs = search needs
+excess-requires : tie.Need-excess-requires
+excess-requires c κs = search needs
 
 returns-3 : tie.Need-returns-3
-unfolding askedOf
+unfolding owedOf
 returns-3 c =
     let t : within 3 4 (c .before .before .before .before .before .before .before .args .r .state) ≡ true = c .before .before .before .if3 .taken in
-    rw (le-leb _ _ (c .before .before .before .before .before .if1 .left), ne-eqb _ _ (c .before .before .before .before .if2 .left), t, c .passes-by .ensures, c .before .before .full-of .ensures, c .before .deposit-per-receipt .ensures)
+    rw (le-leb _ _ (c .before .before .before .before .before .if1 .left), ne-eqb _ _ (c .before .before .before .before .if2 .left), t, c .excess .ensures, c .before .before .full-of .ensures, c .before .deposit-per-receipt .ensures)
 
 no-hold-requires-2 : tie.Need-no-hold-requires-2
 no-hold-requires-2 c κs = search needs
 
 returns-4 : tie.Need-returns-4
-unfolding askedOf
+unfolding owedOf
 returns-4 c = rw (le-leb _ _ (c .before .before .before .if1 .left), ne-eqb _ _ (c .before .before .if2 .left), c .before .if3 .left, c .no-hold2 .ensures)
 
-pub asked-of-spec : {M : Type 1} → statement M
-asked-of-spec =
+pub owed-of-spec : {M : Type 1} → statement M
+owed-of-spec =
     tie.close
     (tie.spec
     no-hold-requires
@@ -51,7 +51,7 @@ asked-of-spec =
     returns-2
     full-of-requires
     deposit-per-receipt-requires
-    passes-by-requires
+    excess-requires
     returns-3
     no-hold-requires-2
     returns-4)
