@@ -8,8 +8,9 @@
  * while a call is made on it. crz_shortfalls only reads its image: several threads may ask at once. On x86-64 each entry
  * takes less than 16 KB of the caller's stack, whatever the kind and the image.
  *
- * Numbers in the image, the calls and the answers are little-endian; i32 is two's complement. Accounts, receipts and
- * contracts count from 1, and a lot has the number of its receipt. crz_records.h reads and writes the records.
+ * Numbers in the image, the calls, the answers and the figures are little-endian; i32 is two's complement. Accounts,
+ * receipts and contracts count from 1, and a lot has the number of its receipt. crz_records.h reads and writes the
+ * records.
  *
  * Each family of names has one prefix:
  *

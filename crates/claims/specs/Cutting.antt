@@ -1,4 +1,4 @@
--- However the invoices of a trade are cut (02 3/12), on bytes: over any calls and tables of calls from an image on, a trade in state 6 that
+-- However the invoices of a trade are cut (02 3/12), on bytes: over any calls, tables of calls and shortfalls from an image on, a trade in state 6 that
 -- has come to some confirmed sum has been paid what the formula says of that sum. The proofs are in Laws/.
 -- Assumes nothing.
 use mathlib.Core.Bool.{Bool, true, false, not, cond, _&&_}
@@ -64,7 +64,7 @@ abbrev pub afterTable : ℕ → ℕ → List ℕ → List ℕ → List ℕ → F
 afterTable k zero image calls answers t = afterCalls k image (callRecords calls) answers t
 afterTable k (suc n) image calls answers t = t
 
--- the trade of lot k over a list of calls and tables, the oldest first
+-- the trade of lot k over a list of what is handed over, the oldest first
 unfoldable pub follow : (k : ℕ) {start : List ℕ} {list : List Handed} {image : List ℕ} → MadeFrom start list image → Followed
 follow k noCalls = record { over = false; parts = 0 }
 follow k (next m call answer number image′ answer′ R) = afterCall k image′ (replyOf number answer′) (follow k m)
@@ -78,7 +78,7 @@ confirmedSum k {start} {list} {image} m = cond (follow k m .over) (full (lotIn s
 
 -- ── The claims ─────────────────────────────────────────────────────────────────────────────────
 
--- Of every list of calls and tables from a valid image on: what the trade had been paid and what its outcomes 11 have paid since is the
+-- Of every list of what is handed over from a valid image on: what the trade had been paid and what its outcomes 11 have paid since is the
 -- formula at its confirmed sum.
 abbrev pub PartsBySum : Type 0
 PartsBySum =

@@ -33,7 +33,7 @@ PremiumGiven =
     (image call answer image′ answer′ : List ℕ) → Returned image call answer 0 image′ answer′ → callIn call .kind ≡ 3
     → Graded image′ (callIn call .receipt) (callIn call .basis)
 
--- of every list of calls and tables from an image on, refused ones among them: a registered receipt keeps its premium
+-- of every list of what is handed over from an image on, refused ones among them: a registered receipt keeps its premium
 abbrev pub PremiumStays : Type 0
 PremiumStays =
     (start : List ℕ) (list : List Handed) (image : List ℕ) → MadeFrom start list image → (k : ℕ) (p : ℤ) → Graded start k p → Graded image k p
@@ -50,7 +50,7 @@ unfoldable pub premiumAfter : ℕ → List (Call × Reply) → ℤ
 premiumAfter k [] = pos 0
 premiumAfter k (a ∷ list) = premiumBy k (a .0) (a .1) (premiumAfter k list)
 
--- of every list of calls and tables from a fresh image on, refused ones among them: every receipt has the premium that the accepted calls say
+-- of every list of what is handed over from a fresh image on, refused ones among them: every receipt has the premium that the accepted calls say
 abbrev pub PremiumsKnown : Type 0
 PremiumsKnown =
     (list : List Handed) (image : List ℕ) → MadeFrom (encode freshZone) list image → (k : ℕ)

@@ -84,7 +84,7 @@ pub record Closed (image answer′ : List ℕ) : Type 0 where
   pub returned : Returned image call answer 0 image′ answer′
   pub kind : callIn call .kind ≡ 11
 
--- An entry that names x as buyer in a buyer default or a double default (01 Answers 6). The buyer is its from.
+-- An entry that names x as buyer in a buyer default or a double default (01 Answers 6, 7). The buyer is its from.
 abbrev pub isDefaultOf : ℕ → Entry → Bool
 isDefaultOf x e = among (e .outcome) (12 ∷ 14 ∷ []) && eqb x (e .from)
 

@@ -48,7 +48,8 @@ fn make(q: Request, image: &mut Page, answer: &mut Page, tally: &mut Tally) -> V
     v
 }
 
-// Pays in and closes. Whether both were done: the zone may be full. Of no fen there is no pay-in, and the close is made at once.
+// Pays in and closes. Whether both were done: the zone may be full. A pay-in of no fen is refused and changes nothing, so that the close is
+// the first call.
 fn pay_and_close(
     account: u64,
     fen: u64,
