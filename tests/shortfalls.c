@@ -10,6 +10,7 @@
  * shortfalls         all of it. The last line is 'N passed, M failed'
  * shortfalls first   ends at the first failure
  */
+#include "draw.h"
 #include "lent.h"
 #include "shortfalls_edges.h"
 
@@ -522,17 +523,6 @@ static void try_known_figures(void)
 }
 
 /* ── Zones that are drawn ──────────────────────────────────────────────────────────────────────── */
-
-/* C leaves the order of arguments open: no expression draws twice, so the zones are the same under every compiler */
-static uint64_t random_state = UINT64_C(0x9e3779b97f4a7c15);
-
-static uint32_t below(uint32_t n)
-{
-    random_state ^= random_state << 13;
-    random_state ^= random_state >> 7;
-    random_state ^= random_state << 17;
-    return (uint32_t)((random_state >> 11) % n);
-}
 
 /* another account than this one */
 static uint32_t other_than(uint32_t account, uint32_t accounts)

@@ -5,6 +5,7 @@
  * table is held to single calls on a copy of its image. The last line is 'N passed, M failed'.
  */
 #include "../include/crz_records.h"
+#include "draw.h"
 #include "lent.h"
 
 #include <stdio.h>
@@ -684,17 +685,6 @@ static void try_full_answers(uint64_t first_ask)
 }
 
 /* ── Tables that are drawn ─────────────────────────────────────────────────────────────────────── */
-
-/* C leaves the order of arguments open: no expression draws twice, so the tables are the same under every compiler */
-static uint64_t random_state = UINT64_C(0x9e3779b97f4a7c15);
-
-static uint32_t below(uint32_t n)
-{
-    random_state ^= random_state << 13;
-    random_state ^= random_state >> 7;
-    random_state ^= random_state << 17;
-    return (uint32_t)((random_state >> 11) % n);
-}
 
 /* a close every now and then, else a quote, which may take the ask away */
 static void draw_for_all(uint8_t *call, const uint8_t *from)
