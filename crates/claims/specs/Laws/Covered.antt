@@ -8,8 +8,8 @@ use Prim.Native.Nat.{ℕ, zero, suc, _+_, _-_, _≤_, _<_}
 use native.Mathlib.Nat.{add-zero}
 use native.Mathlib.Decide.{ℕ-discrete}
 use native.Mathlib.Omega.{arith}
-use borrow.Author.Tests.{ne-eqb, eqb-true, eqb-false, leb-false, lt-leb, ltb-true, ltb-false}
-use lib.Dec.{eqb, leb, ltb}
+use borrow.Author.Tests.{ne-eqb, eqb-true, eqb-false, leb-false, lt-leb}
+use lib.Dec.{eqb, leb}
 use lib.ListN.{length, getD}
 use Rattle.units.specs.Payments.{deposit, penalty, perReceipt, penaltyPassed}
 use Rattle.units.specs.Laws.Bounds.{penalty-at-most}
@@ -37,6 +37,7 @@ use Rattle.rules.specs.Laws.Moves.{fenFrom-zero}
 use Rattle.rules.specs.Laws.Tables.{among-one, nth-put-other}
 use Rattle.rules.specs.Tables.{among, nth, put}
 use Rattle.rules.specs.View.{freeOf, receiptOfNumber, recordOfReceipt, viewOf}
+use Rattle.shortfalls.specs.Laws.Owed.{excess-covers, excess-exact}
 use Rattle.shortfalls.specs.Shortfalls.{excess, isDue, owesPenalty, buysDue, penaltiesDue, paymentsDue}
 use Rattle.claims.specs.Shortfalls.{isDefaultOf, NoDefaultOf, DefaultOf, here, later, hasPart}
 
@@ -50,13 +51,11 @@ owedFor day x r = cond (owesPenalty day x r) (penalty .0) 0 + cond (buysDue day 
 abbrev aboveDeposit : Record → ℕ
 aboveDeposit r = excess (full r .0) (deposit .0)
 
-struck-owes : (day x : ℕ) (r : Record) → r .state ≡ 3 → isDue day r ≡ true → owedFor day x r ≡ fenFrom x (r .buyer) (aboveDeposit r)
+-- of a trade, in state 3 or 4
+trade-owes : (day x : ℕ) (r : Record) (s : ℕ) → within 3 4 s ≡ true → eqb s 7 ≡ false → r .state ≡ s → isDue day r ≡ true
+    → owedFor day x r ≡ fenFrom x (r .buyer) (aboveDeposit r)
 unfolding fenFrom
-struck-owes day x r s d = rw (s, d) (omega arith)
-
-lodged-owes : (day x : ℕ) (r : Record) → r .state ≡ 4 → isDue day r ≡ true → owedFor day x r ≡ fenFrom x (r .buyer) (aboveDeposit r)
-unfolding fenFrom
-lodged-owes day x r s d = rw (s, d) (omega arith)
+trade-owes day x r s t p e d = rw (e, t, p, d) (omega arith)
 
 penalty-owes : (day x : ℕ) (r : Record) → r .state ≡ 7 → isDue day r ≡ true → owedFor day x r ≡ fenFrom x (r .seller) perReceipt
 unfolding fenFrom
@@ -95,13 +94,12 @@ owed-put day x (suc more) n l k r h =
 
 -- n fen are covered by m and what n passes m by
 covered-by : (x a n m : ℕ) → fenFrom x a n ≤ fenFrom x a m + fenFrom x a (excess n m)
-unfolding fenFrom excess
-covered-by x a n m = go (eqb x a) (ltb m n) refl
+unfolding fenFrom
+covered-by x a n m = go (eqb x a)
   where
-    go : (b t : Bool) → ltb m n ≡ t → cond b n 0 ≤ cond b m 0 + cond b (cond t (n - m) 0) 0
-    go true true e = omega (arith, ltb-true m n e)
-    go true false e = omega (arith, ltb-false m n e)
-    go false t e = omega arith
+    go : (b : Bool) → cond b n 0 ≤ cond b m 0 + cond b (excess n m) 0
+    go true = excess-covers n m
+    go false = omega arith
 
 -- less of the same account is not more
 fenFrom-up : (x a n m : ℕ) → n ≤ m → fenFrom x a n ≤ fenFrom x a m
@@ -148,7 +146,7 @@ module _ (z : Zone) (c : Call) (n x : ℕ) (f : Record) (due : isDue (z .day) f 
           fenFrom-zero x (f .seller),
           covered-by x (f .buyer) (full f .0) perReceipt,
           lodged-held s,
-          lodged-owes (z .day) x f s due,
+          trade-owes (z .day) x f 4 refl refl s due,
         );
         no-default = λ h. refl;
       })
@@ -158,7 +156,7 @@ module _ (z : Zone) (c : Call) (n x : ℕ) (f : Record) (due : isDue (z .day) f 
   defaults s m =
       event (record {
         takes = omega (arith, fenFrom-zero x 0, lodged-held s);
-        no-default = λ h. another (omega (arith, lodged-owes (z .day) x f s due)) m;
+        no-default = λ h. another (omega (arith, trade-owes (z .day) x f 4 refl refl s due)) m;
       })
 
   penalises : f .state ≡ 3 → On Takes (eventOf n f (PenaltyDue (f .seller) (f .buyer) (z .day + 1)) 13 0)
@@ -174,7 +172,7 @@ module _ (z : Zone) (c : Call) (n x : ℕ) (f : Record) (due : isDue (z .day) f 
   cancels s m =
       event (record {
         takes = omega (arith, fenFrom-zero x 0, fenFrom-zero x (f .buyer), fenFrom-zero x (f .seller));
-        no-default = λ h. another (omega (arith, struck-owes (z .day) x f s due)) m;
+        no-default = λ h. another (omega (arith, trade-owes (z .day) x f 3 refl refl s due)) m;
       })
 
   fines : f .state ≡ 7 → On Takes (eventOf n f Idle 15 (penaltyPassed (freeOf (z .accounts) (f .seller)) .0))
@@ -420,18 +418,13 @@ module _ (x k : ℕ) (px : 0 < x) where
 
   -- a buyer with less free money than its trade asks lacks the trade's money
   lacking : (day : ℕ) (f : Record) (free : ℕ) → buysDue day x f ≡ true → free < owedFor day x f → free + perReceipt < full f .0
-  unfolding excess
   lacking day f free h l =
       let t = both (within 3 4 (f .state) && isDue day f) (eqb x (f .buyer)) h in
       let u = both (within 3 4 (f .state)) (isDue day f) (t .0) in
       let R : InRange 3 4 (f .state) = range-in (u .0) in
       let other : eqb (f .state) 7 ≡ false = ne-eqb (f .state) 7 (λ e. omega (arith, R .high, e)) in
-      let l′ : free < 0 + cond (ltb perReceipt (full f .0)) (full f .0 - perReceipt) 0 = rw (other, h) at l in
-      go (ltb perReceipt (full f .0)) refl l′
-    where
-      go : (b : Bool) → ltb perReceipt (full f .0) ≡ b → free < 0 + cond b (full f .0 - perReceipt) 0 → free + perReceipt < full f .0
-      go true e q = omega (arith, ltb-true perReceipt (full f .0) e)
-      go false e q = absurd (omega arith)
+      let l′ : free < 0 + aboveDeposit f = rw (other, h) at l in
+      omega (arith, excess-exact (full f .0) perReceipt (omega arith))
 
   module _ (c : Call) (kind : c .kind ≡ 11) where
     sweep-default : (more n : ℕ) (z : Zone) → 0 < n → n + more ≤ receiptCount + 1 → n ≤ k → k < n + more → Good z → Short n z

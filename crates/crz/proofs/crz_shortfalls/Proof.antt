@@ -3,10 +3,13 @@ use mathlib.Core.Bool.{true, false}
 use mathlib.Core.List.{List}
 use mathlib.Core.Path.{_≡_, sym, ap, _∙_}
 use Prim.Native.Nat.{ℕ}
+use native.Mathlib.Omega.{arith}
 use borrow.Author.Tests.{lt-ltb, le-ltb, not-true, not-false}
 use denote.Ref.{now}
+use lib.ListN.{length}
 use Rattle.image.specs.Image.{validImage, decode}
 use Rattle.shortfalls.specs.Laws.Figures.{figures-put}
+use Rattle.shortfalls.specs.Shortfalls.{figuresLength}
 use Rattle.crz.specs.Figures.{shortfallsEntry}
 use borrow.Author.Needs.{needs}
 use Rattle.crz.proofs.crz_shortfalls.Statement.{statement}
@@ -17,7 +20,7 @@ cast-result c = search needs
 
 returns : tie.Need-returns
 unfolding shortfallsEntry
-returns c = rw (lt-ltb _ _ (c .if1 .taken))
+returns c = rw (lt-ltb (length (now (c .before .before .before .args .figures))) figuresLength (omega (arith, c .if1 .taken)))
 
 image-ok-requires : tie.Need-image-ok-requires
 image-ok-requires c κs = search needs
@@ -29,7 +32,7 @@ returns-2 : tie.Need-returns-2
 unfolding shortfallsEntry
 returns-2 c =
     let v : validImage (now (c .before .before .before .before .before .args .image)) ≡ false = sym (c .before .image-ok .ensures) ∙ not-true _ (c .if2 .taken) in
-    rw (le-ltb _ _ (c .before .before .if1 .left), v)
+    rw (le-ltb (length (now (c .before .before .before .before .before .args .figures))) figuresLength (omega (arith, c .before .before .if1 .left)), v)
 
 -- the image is valid
 valid : (c : tie.Else2) → validImage (now (c .before .before .before .before .before .args .image)) ≡ true

@@ -1,9 +1,11 @@
 -- Before it is due a lot asks nothing; then its state decides.
-use mathlib.Core.Bool.{true}
+use mathlib.Core.Bool.{true, false}
 use mathlib.Core.Path.{_≡_}
+use native.Mathlib.Omega.{arith}
 use borrow.Author.Tests.{eq-eqb, ne-eqb, le-leb, lt-leb}
 use Rattle.units.specs.Ranges.{within}
 use Rattle.zone.specs.Laws.Facts.{bounds}
+use Rattle.zone.specs.Laws.Tests.{range-in, inside}
 use Rattle.shortfalls.specs.Walk.{owedOf}
 use borrow.Author.Needs.{needs}
 use Rattle.shortfalls.proofs.owed_of.Statement.{statement}
@@ -14,7 +16,9 @@ no-hold-requires c κs = search needs
 
 returns : tie.Need-returns
 unfolding owedOf
-returns c = rw (lt-leb _ _ (c .before .if1 .taken), c .no-hold .ensures)
+returns c =
+    let a = c .before .before .before .args in
+    rw (lt-leb (a .r .due) (a .day) (omega (arith, c .before .if1 .taken)), c .no-hold .ensures)
 
 returns-2 : tie.Need-returns-2
 unfolding owedOf
@@ -32,7 +36,9 @@ excess-requires c κs = search needs
 returns-3 : tie.Need-returns-3
 unfolding owedOf
 returns-3 c =
-    let t : within 3 4 (c .before .before .before .before .before .before .before .args .r .state) ≡ true = c .before .before .before .if3 .taken in
+    let s = c .before .before .before .before .before .before .before .args .r .state in
+    let R = range-in {n = s} (c .before .before .before .if3 .taken) in
+    let t : within 3 4 s ≡ true = inside 3 4 s (omega (arith, R .low)) (omega (arith, R .high)) in
     rw (le-leb _ _ (c .before .before .before .before .before .if1 .left), ne-eqb _ _ (c .before .before .before .before .if2 .left), t, c .excess .ensures, c .before .before .full-of .ensures, c .before .deposit-per-receipt .ensures)
 
 no-hold-requires-2 : tie.Need-no-hold-requires-2
@@ -40,7 +46,9 @@ no-hold-requires-2 c κs = search needs
 
 returns-4 : tie.Need-returns-4
 unfolding owedOf
-returns-4 c = rw (le-leb _ _ (c .before .before .before .if1 .left), ne-eqb _ _ (c .before .before .if2 .left), c .before .if3 .left, c .no-hold2 .ensures)
+returns-4 c =
+    let t : within 3 4 (c .before .before .before .before .before .args .r .state) ≡ false = c .before .if3 .left in
+    rw (le-leb _ _ (c .before .before .before .if1 .left), ne-eqb _ _ (c .before .before .if2 .left), t, c .no-hold2 .ensures)
 
 pub owed-of-spec : {M : Type 1} → statement M
 owed-of-spec =

@@ -76,7 +76,7 @@ figures-put z old h =
 
 -- ── As a host reads them ───────────────────────────────────────────────────────────────────────
 
--- what valid receipts ask of one account is no more than their full payments can be together
+-- what one account owes for valid receipts is no more than their full payments can be together
 due-le : (day x : ℕ) (rs : List Receipt) → all (λ r. recordValid (recordOf r)) rs ≡ true → penaltiesDue day x rs + paymentsDue day x rs ≤ mostFull * length rs
 due-le day x rs v =
     omega (arith, owed-due day x rs v, asked-le (validOwed day) (owed-known day) mostFull (owed-small day) x (map recordOf rs), length-map rs recordOf)

@@ -16,10 +16,11 @@ use Rattle.zone.specs.declared.Receipt.{Receipt}
 use Rattle.zone.specs.declared.Record.{Record}
 use Rattle.zone.specs.Held.{full, fenFrom}
 use Rattle.zone.specs.Laws.Facts.{bounds}
-use Rattle.zone.specs.Laws.Held.{full-le, fenFrom-le}
+use Rattle.zone.specs.Laws.Held.{full-le}
 use Rattle.zone.specs.Laws.Tests.{both}
 use Rattle.zone.specs.Record.{recordOf}
 use Rattle.zone.specs.Valid.{all, recordValid}
+use Rattle.rules.specs.Laws.Moves.{fenFrom-zero}
 use Rattle.verdict.specs.Laws.Sums.{asked, by-verdict, hold-valid}
 use Rattle.verdict.specs.Sums.{noHold}
 use Rattle.shortfalls.specs.Shortfalls.{excess, isDue, owesPenalty, buysDue, penaltiesDue, paymentsDue}
@@ -76,9 +77,6 @@ owed-small day r =
 
 -- ── Account by account ─────────────────────────────────────────────────────────────────────────
 
-none-from : (x : ℕ) → fenFrom x 0 0 ≡ 0
-none-from x = omega (arith, fenFrom-le x 0 0)
-
 -- a lot in state 7 is in no other state
 seven : (s : ℕ) → eqb s 7 ≡ true → within 3 4 s ≡ false
 seven s e = rw (eqb-true s 7 e)
@@ -98,7 +96,7 @@ lot-owes day x r = go (eqb (r .state) 7) refl (isDue day r)
 
     trade : (t : Bool) → from (cond t (paymentOwed r) noHold) ≡ cond (t && true && eqb x (r .buyer)) n 0
     trade true = refl
-    trade false = none-from x
+    trade false = fenFrom-zero x 0
 
     early : (t : Bool) → 0 ≡ 0 + cond (t && false && eqb x (r .buyer)) n 0
     early true = refl
@@ -108,9 +106,9 @@ lot-owes day x r = go (eqb (r .state) 7) refl (isDue day r)
         from (cond d (cond s (penaltyOwed r) (cond (within 3 4 (r .state)) (paymentOwed r) noHold)) noHold)
         ≡ cond (s && d && eqb x (r .seller)) (penalty .0) 0 + cond (within 3 4 (r .state) && d && eqb x (r .buyer)) n 0
     go true e true = rw (seven (r .state) e) (omega arith)
-    go true e false = rw (seven (r .state) e) (omega (arith, none-from x))
+    go true e false = rw (seven (r .state) e) (omega (arith, fenFrom-zero x 0))
     go false e true = trade (within 3 4 (r .state)) ∙ omega arith
-    go false e false = none-from x ∙ early (within 3 4 (r .state))
+    go false e false = fenFrom-zero x 0 ∙ early (within 3 4 (r .state))
 
 -- over receipts whose records are valid
 pub owed-due : (day x : ℕ) (rs : List Receipt) → all (λ r. recordValid (recordOf r)) rs ≡ true →
