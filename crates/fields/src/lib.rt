@@ -1,6 +1,9 @@
 // The fields of a call that its kind uses: the others are zero, these are in their ranges.
+ghost use mathlib.Core.Bool.{_&&_};
 ghost use mathlib.Core.Path.{_≡_};
-ghost use Rattle.rules.specs.Numbers.{account, receipt, contract, amount, basis, brackets, isUsed, unusedZero, inRange, values};
+ghost use lib.Dec.{eqb};
+ghost use Rattle.units.specs.Ranges.{isZero, isAccount, isReceipt};
+ghost use Rattle.rules.specs.Numbers.{brackets, unusedZero, inRange, values};
 use rules::Call;
 use rules::KIND_CONFIRM;
 use rules::KIND_FIRST_PAYMENT;
@@ -8,81 +11,86 @@ use rules::KIND_INVOICE;
 use rules::KIND_LIMIT_BID;
 use rules::KIND_LIST;
 use rules::KIND_LODGE;
+use rules::KIND_MARKET_BID;
 use rules::KIND_PAY_IN;
 use rules::KIND_QUOTE;
 use rules::KIND_REGISTER;
 use rules::KIND_TAKE_OUT;
 use rules::KIND_WITHDRAW_BID;
+use rules::KIND_WITHDRAW_LISTING;
 
-fn uses_account(kind: u8) -> bool
-    ensures { λ r. ⌜ r ≡ isUsed (account .index) (brackets kind) ⌝ }
+// Contract, D, basis and weight are zero: the call neither lists nor registers.
+fn no_terms(c: Call) -> bool
+    ensures { λ r. ⌜ r ≡ eqb (c .contract) 0 && eqb (c .days) 0 && isZero (c .basis) && eqb (c .weight) 0 ⌝ }
 {
-    (KIND_PAY_IN <= kind) & (kind <= KIND_WITHDRAW_BID)
-        | (kind == KIND_LODGE)
-        | (KIND_FIRST_PAYMENT <= kind) & (kind <= KIND_CONFIRM)
+    (c.contract == 0) & (c.days == 0) & units::is_zero(c.basis) & (c.weight == 0)
 }
 
-fn uses_receipt(kind: u8) -> bool
-    ensures { λ r. ⌜ r ≡ isUsed (receipt .index) (brackets kind) ⌝ }
+// Each field but the spare bytes is used or zero, by the rows of `brackets`.
+fn named_zero(c: Call) -> bool
+    ensures { λ r. ⌜ r && eqb (c .spare) 0 ≡ unusedZero (brackets (c .kind)) 0 (values c) ⌝ }
 {
-    (KIND_REGISTER <= kind) & (kind <= KIND_WITHDRAW_BID)
-        | (kind == KIND_LODGE)
-        | (KIND_FIRST_PAYMENT <= kind) & (kind <= KIND_CONFIRM)
+    let kind = c.kind;
+    match kind {
+        KIND_PAY_IN | KIND_TAKE_OUT => no_terms(c) & (c.receipt == 0),
+        KIND_REGISTER => (c.contract == 0) & (c.days == 0) & (c.amount == 0),
+        KIND_LIST => (c.weight == 0) & (c.amount == 0),
+        KIND_WITHDRAW_LISTING
+        | KIND_MARKET_BID
+        | KIND_WITHDRAW_BID
+        | KIND_LODGE
+        | KIND_FIRST_PAYMENT
+        | KIND_CONFIRM => no_terms(c) & (c.amount == 0),
+        KIND_LIMIT_BID | KIND_INVOICE => no_terms(c),
+        KIND_QUOTE => {
+            (c.days == 0)
+                & units::is_zero(c.basis)
+                & (c.weight == 0)
+                & (c.account == 0)
+                & (c.receipt == 0)
+        }
+        _ => no_terms(c) & (c.account == 0) & (c.receipt == 0) & (c.amount == 0),
+    }
 }
 
-fn uses_contract(kind: u8) -> bool
-    ensures { λ r. ⌜ r ≡ isUsed (contract .index) (brackets kind) ⌝ }
-{
-    (kind == KIND_LIST) | (kind == KIND_QUOTE)
-}
-
-fn uses_amount(kind: u8) -> bool
-    ensures { λ r. ⌜ r ≡ isUsed (amount .index) (brackets kind) ⌝ }
-{
-    (kind == KIND_PAY_IN)
-        | (kind == KIND_TAKE_OUT)
-        | (kind == KIND_LIMIT_BID)
-        | (kind == KIND_QUOTE)
-        | (kind == KIND_INVOICE)
-}
-
-// The basis of a listing, the premium of a registration.
-fn uses_basis(kind: u8) -> bool
-    ensures { λ r. ⌜ r ≡ isUsed (basis .index) (brackets kind) ⌝ }
-{
-    (kind == KIND_REGISTER) | (kind == KIND_LIST)
-}
-
-// Each field is used or zero. A listing alone uses D, a registration alone the weight.
+// Each field is used or zero; the spare bytes are in no row.
 pub fn unused_zero(c: Call) -> bool
     ensures { λ r. ⌜ r ≡ unusedZero (brackets (c .kind)) 0 (values c) ⌝ }
 {
-    let kind = c.kind;
-    (uses_account(kind) | (c.account == 0))
-        & (uses_receipt(kind) | (c.receipt == 0))
-        & (uses_contract(kind) | (c.contract == 0))
-        & ((kind == KIND_LIST) | (c.days == 0))
-        & (uses_amount(kind) | (c.amount == 0))
-        & (uses_basis(kind) | units::is_zero(c.basis))
-        & ((kind == KIND_REGISTER) | (c.weight == 0))
-        & (c.spare == 0)
+    named_zero(c) & (c.spare == 0)
 }
 
-// Each field is unused or in its range.
+// An account acts on a receipt.
+fn names_lot(c: Call) -> bool
+    ensures { λ r. ⌜ r ≡ isAccount (c .account) && isReceipt (c .receipt) ⌝ }
+{
+    units::is_account(c.account) & units::is_receipt(c.receipt)
+}
+
+// The fields that the kind uses are in their ranges, by the same rows.
 pub fn in_range(c: Call) -> bool
     ensures { λ r. ⌜ r ≡ inRange (brackets (c .kind)) (values c) ⌝ }
 {
     let kind = c.kind;
     let amount = c.amount;
-    let money = (kind == KIND_PAY_IN) | (kind == KIND_TAKE_OUT) | (kind == KIND_INVOICE);
-    (!uses_account(kind) | units::is_account(c.account))
-        & (!uses_receipt(kind) | units::is_receipt(c.receipt))
-        & (!uses_contract(kind) | units::is_contract(c.contract))
-        & ((kind != KIND_LIST) | units::is_days(c.days))
-        & (!money | units::is_amount(amount))
-        & ((kind != KIND_LIMIT_BID) | units::is_price(amount))
-        & ((kind != KIND_QUOTE) | units::is_ask(amount))
-        & ((kind != KIND_LIST) | units::is_basis(c.basis))
-        & ((kind != KIND_REGISTER) | units::is_premium(c.basis))
-        & ((kind != KIND_REGISTER) | units::is_weight(c.weight))
+    match kind {
+        KIND_PAY_IN | KIND_TAKE_OUT => units::is_account(c.account) & units::is_amount(amount),
+        KIND_REGISTER => names_lot(c) & units::is_premium(c.basis) & units::is_weight(c.weight),
+        KIND_LIST => {
+            names_lot(c)
+                & units::is_contract(c.contract)
+                & units::is_days(c.days)
+                & units::is_basis(c.basis)
+        }
+        KIND_WITHDRAW_LISTING
+        | KIND_MARKET_BID
+        | KIND_WITHDRAW_BID
+        | KIND_LODGE
+        | KIND_FIRST_PAYMENT
+        | KIND_CONFIRM => names_lot(c),
+        KIND_LIMIT_BID => names_lot(c) & units::is_price(amount),
+        KIND_QUOTE => units::is_contract(c.contract) & units::is_ask(amount),
+        KIND_INVOICE => names_lot(c) & units::is_amount(amount),
+        _ => true,
+    }
 }

@@ -81,19 +81,19 @@ fn wrong_state(c: Call, f: Record) -> bool
     let state = f.state;
     let registered = !(f.owner == 0);
     let pending = !(f.pending.0 == 0);
-    let offered = (state == STATE_LISTED) | (state == STATE_BID_STANDS);
-    let offer_kind = (kind == KIND_WITHDRAW_LISTING)
-        | (kind == KIND_LIMIT_BID)
-        | (kind == KIND_MARKET_BID);
-    let named = ((kind != KIND_REGISTER) | !registered)
-        & ((kind != KIND_LIST) | (state == STATE_IDLE) & registered)
-        & (!offer_kind | offered)
-        & ((kind != KIND_WITHDRAW_BID) | (state == STATE_BID_STANDS))
-        & ((kind != KIND_LODGE) | (state == STATE_STRUCK))
-        & ((kind != KIND_FIRST_PAYMENT) | (state == STATE_SETTLED))
-        & ((kind != KIND_INVOICE) | (state == STATE_FIRST_PAID) & !pending)
-        & ((kind != KIND_CONFIRM) | (state == STATE_FIRST_PAID) & pending);
-    !named
+    match kind {
+        KIND_REGISTER => registered,
+        KIND_LIST => !((state == STATE_IDLE) & registered),
+        KIND_WITHDRAW_LISTING | KIND_LIMIT_BID | KIND_MARKET_BID => {
+            !((state == STATE_LISTED) | (state == STATE_BID_STANDS))
+        }
+        KIND_WITHDRAW_BID => !(state == STATE_BID_STANDS),
+        KIND_LODGE => !(state == STATE_STRUCK),
+        KIND_FIRST_PAYMENT => !(state == STATE_SETTLED),
+        KIND_INVOICE => !((state == STATE_FIRST_PAID) & !pending),
+        KIND_CONFIRM => !((state == STATE_FIRST_PAID) & pending),
+        _ => false,
+    }
 }
 
 // The kind names a party, and the caller is another.
@@ -101,18 +101,15 @@ fn wrong_party(c: Call, f: Record) -> bool
     ensures { λ x. ⌜ x ≡ wrongParty c f ⌝ }
 {
     let kind = c.kind;
-    let is_owner = c.account == f.owner;
-    let is_seller = c.account == f.seller;
-    let is_buyer = c.account == f.buyer;
-    let of_seller = (kind == KIND_WITHDRAW_LISTING)
-        | (kind == KIND_LODGE)
-        | (kind == KIND_FIRST_PAYMENT)
-        | (kind == KIND_INVOICE);
-    let named = ((kind != KIND_LIST) | is_owner)
-        & (!of_seller | is_seller)
-        & (!((kind == KIND_WITHDRAW_BID) | (kind == KIND_CONFIRM)) | is_buyer)
-        & (!((kind == KIND_LIMIT_BID) | (kind == KIND_MARKET_BID)) | !is_seller);
-    !named
+    match kind {
+        KIND_LIST => !(c.account == f.owner),
+        KIND_WITHDRAW_LISTING | KIND_LODGE | KIND_FIRST_PAYMENT | KIND_INVOICE => {
+            !(c.account == f.seller)
+        }
+        KIND_WITHDRAW_BID | KIND_CONFIRM => !(c.account == f.buyer),
+        KIND_LIMIT_BID | KIND_MARKET_BID => c.account == f.seller,
+        _ => false,
+    }
 }
 
 fn not_above(c: Call, f: Record) -> bool
@@ -160,11 +157,11 @@ fn lacks_money(v: View, c: Call, f: Record) -> bool
 {
     let kind = c.kind;
     let free = v.free.caller.0;
-    if kind == KIND_TAKE_OUT {
-        return free < c.amount;
+    match kind {
+        KIND_TAKE_OUT => free < c.amount,
+        KIND_LIMIT_BID | KIND_MARKET_BID => free + held_from(c.account, f).0 < PER_RECEIPT,
+        _ => false,
     }
-    ((kind == KIND_LIMIT_BID) | (kind == KIND_MARKET_BID))
-        & (free + held_from(c.account, f).0 < PER_RECEIPT)
 }
 
 fn above_limit(v: View, c: Call) -> bool
