@@ -1,3 +1,4 @@
+pub mod Bits
 pub mod Sums
 pub mod Turns
 pub mod Verdict

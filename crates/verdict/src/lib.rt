@@ -50,6 +50,9 @@ const SECOND_ZERO: usize = PHASE_PLACE + 2;
 
 const THIRD_ZERO: usize = PHASE_PLACE + 3;
 
+// 2^50, the least power of two above the limit of all money.
+const ABOVE_LIMIT: u64 = 1125899906842624;
+
 // Counts, starts, phase and the three zero bytes.
 fn header_ok(image: &[u8]) -> bool
     requires { ⌜ length (now image) ≡ imageLength ⌝ }
@@ -223,8 +226,9 @@ fn all_set(marks: &[bool]) -> bool
     ok
 }
 
-// Whether the records are valid, each frozen is what the lots hold from that account, and the total is all money. No account may have more
-// free money than all together, so that no sum wraps.
+// Whether the records are valid, each frozen is what the lots hold from that account, and the total is all money. The loop decides nothing:
+// it gathers the bits of free money and those in which frozen money differs, and sums that may wrap, and is vector code so. Where free money
+// has no bit from 2^50 on, no sum has wrapped; where it has one, it is above the limit of all money.
 fn books_ok(image: &[u8], total: u64) -> bool
     requires { ⌜ (length (now image) ≡ imageLength) × (total ≤ moneyLimit) ⌝ }
     ensures { λ r. ⌜ r ≡ booksBySums (now (image .entry)) total ⌝ }
@@ -235,17 +239,18 @@ fn books_ok(image: &[u8], total: u64) -> bool
         return false;
     }
     let mut money: u64 = 0;
+    let mut free_bits: u64 = 0;
+    let mut other_bits: u64 = 0;
     let mut i: usize = 0;
     while i < ACCOUNTS {
         let a = image::account_at(image, i);
         let held = sums[i].0;
-        if (MONEY_LIMIT < a.free.0) | (a.frozen.0 != held) {
-            return false;
-        }
-        money += a.free.0 + held;
+        free_bits = free_bits | a.free.0;
+        other_bits = other_bits | (a.frozen.0 ^ held);
+        money = std::num::wrapping_add_u64(money, std::num::wrapping_add_u64(a.free.0, held));
         i += 1;
     }
-    total == money
+    (free_bits < ABOVE_LIMIT) & (other_bits == 0) & (total == money)
 }
 
 // The verdict on any bytes.
