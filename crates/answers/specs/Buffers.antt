@@ -201,3 +201,7 @@ withEntries k es answer = sets answer (entryPlace k) (tableBytes entryBytes es)
 -- how many entries were put behind the header of an answer, and the answer then
 abbrev pub listed : List Entry → List ℕ → ℕ × List ℕ
 listed es answer = (length es, withEntries 0 es answer)
+
+-- a buffer with every byte of the answer zero, as the code begins one
+abbrev pub cleared : List ℕ → List ℕ
+cleared answer = sets answer 0 (replicate answerLength 0)

@@ -7,7 +7,7 @@ ghost use Rattle.image.specs.Image.{validImage, decode, encode};
 ghost use Rattle.rules.specs.declared.Step.the-variants.{Accepted};
 ghost use Rattle.rules.specs.Effects.{effect};
 ghost use Rattle.rules.specs.Steps.{stepOn};
-ghost use Rattle.answers.specs.Buffers.{mostCalls, answerLength, acceptedAnswer};
+ghost use Rattle.answers.specs.Buffers.{mostCalls, answerLength, acceptedAnswer, cleared};
 ghost use Rattle.crz.specs.CallTable.{inTurn, tableFits, tableEntry};
 ghost use Rattle.crz.specs.Figures.{shortfallsEntry};
 ghost use Rattle.crz.specs.Fresh.{freshEntry};
@@ -27,12 +27,11 @@ use shortfalls::FIGURES_LENGTH;
 
 // ── A call ──────────────────────────────────────────────────────────────────────────────────────
 
-// An accepted call: what it does in the image, and the answer.
+// An accepted call: what it does in the image, and the answer, over zeros.
 fn carry_out(image: &mut [u8], answer: &mut [u8], c: Call, at: AtLot) -> u32
-    requires { ⌜ (answerLength ≤ length (now answer)) × (validImage (now image) ≡ true) × (stepOn (decode (now image)) c ≡ Accepted at) ⌝ }
+    requires { ⌜ (answerLength ≤ length (now answer)) × (cleared (now answer) ≡ now answer) × (validImage (now image) ≡ true) × (stepOn (decode (now image)) c ≡ Accepted at) ⌝ }
     ensures { λ r. ⌜ (r ≡ 0) × (now (image .exit) ≡ encode (effect (decode (now (image .entry))) c .zone)) × (now (answer .exit) ≡ acceptedAnswer (effect (decode (now (image .entry))) c .zone) (effect (decode (now (image .entry))) c .entries) (now (answer .entry))) ⌝ }
 {
-    wire::put_zeros(answer, 0, ANSWER_LENGTH);
     let count = calls::perform(image, c, at, answer);
     answers::put_header(answer, image, count);
     NUMBER_ACCEPTED as u32
@@ -46,6 +45,7 @@ pub fn make_call(image: &mut [u8], valid: bool, c: Call, answer: &mut [u8]) -> u
     if answer.len() < ANSWER_LENGTH {
         return NUMBER_SHORT_ANSWER as u32;
     }
+    answers::clear(answer);
     if !valid {
         return answers::refuse(answer, NUMBER_BAD_IMAGE);
     }

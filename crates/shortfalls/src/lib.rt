@@ -34,7 +34,8 @@ fn excess(n: Fen, m: Fen) -> Fen
     if m.0 < n.0 { Fen(n.0 - m.0) } else { Fen(0) }
 }
 
-// For a lot that is due its seller owes the penalty, or its buyer what full has above the deposit.
+// For a lot that is due its seller owes the penalty, or its buyer what full has above the deposit. The state comes first: it decides for most
+// lots.
 fn owed_of(r: Record, day: u16) -> Hold
     requires { ⌜ recordValid r ≡ true ⌝ }
     ensures { λ x. ⌜ x ≡ owedOf day r ⌝ }
@@ -42,19 +43,22 @@ fn owed_of(r: Record, day: u16) -> Hold
     let seller = r.seller;
     let buyer = r.buyer;
     let s = r.state;
+    if s < STATE_STRUCK {
+        return verdict::no_hold();
+    }
     if day < r.due {
         return verdict::no_hold();
+    }
+    if s <= STATE_LODGED {
+        return Hold {
+            from: buyer,
+            fen: excess(validity::full_of(r), units::deposit_per_receipt()),
+        };
     }
     if s == STATE_PENALTY_DUE {
         return Hold {
             from: seller,
             fen: Fen(PER_RECEIPT),
-        };
-    }
-    if (STATE_STRUCK <= s) & (s <= STATE_LODGED) {
-        return Hold {
-            from: buyer,
-            fen: excess(validity::full_of(r), units::deposit_per_receipt()),
         };
     }
     verdict::no_hold()

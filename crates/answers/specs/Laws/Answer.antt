@@ -7,7 +7,7 @@ use Prim.Native.Nat.{ℕ, zero, suc, _-_, _≤_}
 use native.Mathlib.Nat.{sub-zero, le-of-suc-le-suc, not-suc-le-zero}
 use native.Mathlib.Omega.{arith}
 use lib.ListN.{length, drop, replicate, length-replicate, length-append, length-drop}
-use lib.Seq.{sets, drop-append-le}
+use lib.Seq.{sets, drop-append-le, drop-append-seam, drop-at}
 use Rattle.wire.specs.LittleEndian.{leBytes}
 use Rattle.wire.specs.Laws.Bytes.{sets-append}
 use Rattle.units.specs.Ranges.{receiptCount}
@@ -16,7 +16,7 @@ use Rattle.rules.specs.declared.Entry.{Entry}
 use Rattle.image.specs.Table.{tableBytes}
 use Rattle.image.specs.Laws.Places.{put-front}
 use Rattle.image.specs.Laws.Table.{length-tableBytes}
-use Rattle.answers.specs.Buffers.{answerLength, answerHeader, entriesStart, entryLength, entryBytes, headerOf, acceptedBytes, acceptedAnswer, padded, withEntries}
+use Rattle.answers.specs.Buffers.{answerLength, answerHeader, entriesStart, entryLength, entryBytes, headerOf, acceptedBytes, acceptedAnswer, padded, withEntries, cleared}
 use Rattle.answers.specs.Laws.Entries.{entry-wide}
 use Rattle.wire.specs.Laws.Runs.{runs-apart}
 
@@ -41,6 +41,29 @@ run-over-zeros old bytes h k = go (replicate answerLength 0) (length-replicate {
         let m : length bytes ≤ length (zeros ++ drop answerLength old) = rw length-append (omega arith) in
         ap (λ (s : List ℕ). sets s 0 bytes) a ∙ put-front (zeros ++ drop answerLength old) bytes m ∙ rw (drop-append-le (length bytes) zeros (drop answerLength old), e)
         (sym (append-assoc bytes (replicate (answerLength - length bytes) 0) (drop answerLength old)))
+
+-- zeros put twice are zeros put once, and nothing of them is left below an answer
+module _ (old : List ℕ) (h : answerLength ≤ length old) where
+  over : (zeros : List ℕ) → length zeros ≡ answerLength → sets old 0 zeros ≡ zeros ++ drop answerLength old
+  over zeros z = put-front old zeros (rw z h) ∙ rw z
+
+  pub cleared-twice : cleared (cleared old) ≡ cleared old
+  cleared-twice = go (replicate answerLength 0) (length-replicate {A = ℕ} answerLength 0)
+    where
+      go : (zeros : List ℕ) → length zeros ≡ answerLength → sets (sets old 0 zeros) 0 zeros ≡ sets old 0 zeros
+      go zeros z =
+          let d : List ℕ = drop answerLength old in
+          let m : length zeros ≤ length (zeros ++ d) = rw length-append (omega arith) in
+          ap (λ (s : List ℕ). sets s 0 zeros) (over zeros z) ∙ put-front (zeros ++ d) zeros m
+          ∙ ap (λ (s : List ℕ). zeros ++ s) (drop-append-seam zeros d) ∙ sym (over zeros z)
+
+  pub cleared-under : (bytes : List ℕ) → padded bytes (cleared old) ≡ padded bytes old
+  unfolding padded
+  cleared-under bytes =
+      ap (λ (s : List ℕ). bytes ++ replicate (answerLength - length bytes) 0 ++ s) (go (replicate answerLength 0) (length-replicate {A = ℕ} answerLength 0))
+    where
+      go : (zeros : List ℕ) → length zeros ≡ answerLength → drop answerLength (sets old 0 zeros) ≡ drop answerLength old
+      go zeros z = ap (drop answerLength) (over zeros z) ∙ drop-at zeros (drop answerLength old) answerLength z
 
 pub header-wide : (afternoon : Bool) (count total : ℕ) → length (headerOf afternoon count total) ≡ answerHeader
 unfolding headerOf leBytes
