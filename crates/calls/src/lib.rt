@@ -13,6 +13,7 @@ ghost use Rattle.rules.specs.Order.{answerOrder};
 ghost use Rattle.rules.specs.Steps.{stepOn, numberOn};
 ghost use Rattle.answers.specs.Buffers.{answerLength, entriesFrom, withEntries, listed};
 ghost use Rattle.events.specs.Posting.{CanPost};
+use lots::Noted;
 use rules::AtLot;
 use rules::Call;
 use rules::KIND_DAY_CLOSE;
@@ -23,7 +24,6 @@ use rules::KIND_TAKE_OUT;
 use units::Fen;
 use units::RECEIPTS;
 use units::YuanPerTonne;
-use visits::Noted;
 
 // ── All lots in ascending order ─────────────────────────────────────────────────────────────────
 

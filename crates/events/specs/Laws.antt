@@ -1,2 +1,3 @@
 pub mod Changed
 pub mod Moved
+pub mod Nothing

@@ -37,7 +37,8 @@ pub fn post(image: &mut [u8], e: Entry, r: Receipt)
 {
     let k = (e.lot - 1) as usize;
     let old = validity::hold_of(image::record_at(image, k));
-    let new = validity::hold_of(zone::record_of(r));
-    put::receipt(image, k, r);
+    let after = zone::record_of(r);
+    let new = validity::hold_of(after);
+    put::receipt_record(image, k, after);
     money::move_money(image, old, e.from, e.to, money_of(e), new);
 }

@@ -45,14 +45,14 @@ pub fn debit_from(image: &mut [u8], a: u8, n: Fen)
     change(image, a, Fen(0), n, Fen(0), Fen(0));
 }
 
-fn release_to(image: &mut [u8], a: u8, n: Fen)
+pub fn release_to(image: &mut [u8], a: u8, n: Fen)
     requires { ⌜ Encoded (now image) × Fits (decode (now image)) × (a ≤ accountCount) × (0 < a → n .0 ≤ frozenOf (decode (now image) .accounts) a .0) ⌝ }
     ensures { λ _. ⌜ now (image .exit) ≡ encode (withAccounts (decode (now (image .entry))) (release a n (decode (now (image .entry)) .accounts))) ⌝ }
 {
     change(image, a, n, Fen(0), Fen(0), n);
 }
 
-fn freeze_from(image: &mut [u8], a: u8, n: Fen)
+pub fn freeze_from(image: &mut [u8], a: u8, n: Fen)
     requires { ⌜ Encoded (now image) × Fits (decode (now image)) × (a ≤ accountCount) × (0 < a → n .0 ≤ freeOf (decode (now image) .accounts) a .0) ⌝ }
     ensures { λ _. ⌜ now (image .exit) ≡ encode (withAccounts (decode (now (image .entry))) (freeze a n (decode (now (image .entry)) .accounts))) ⌝ }
 {

@@ -12,8 +12,8 @@ ghost use Rattle.rules.specs.Effects.{sweeps, ruleAt};
 ghost use Rattle.rules.specs.Steps.{stepOn};
 ghost use Rattle.rules.specs.View.{viewOf, recordOfReceipt, askOf, freeOf};
 ghost use Rattle.lots.specs.Concerned.{concerned};
-use rules::AtLot;
 use rules::Call;
+use rules::Entry;
 use rules::FreeMoney;
 use rules::KIND_MORNING_CLOSE;
 use rules::KIND_QUOTE;
@@ -36,7 +36,7 @@ use zone::STATE_STRUCK;
 // ── What a rule reads ───────────────────────────────────────────────────────────────────────────
 
 // Free money of any account number; who is no account has none.
-fn free_of(image: &[u8], a: u8) -> Fen
+pub fn free_of(image: &[u8], a: u8) -> Fen
     requires { ⌜ length (now image) ≡ imageLength ⌝ }
     ensures { λ r. ⌜ r ≡ freeOf (decode (now (image .entry)) .accounts) a ⌝ }
 {
@@ -113,6 +113,12 @@ pub fn step_of(image: &[u8], c: Call) -> Step
 
 // ── A lot that a call through all lots comes by ─────────────────────────────────────────────────
 
+// What is listed of the lot.
+pub enum Noted {
+    One(Entry),
+    Nothing,
+}
+
 // Whether the call's rule can do anything at a lot; the test is cheaper than the rule.
 fn concerns(c: Call, state: u8, contract: u8) -> bool
     ensures { λ x. ⌜ x ≡ concerned c state contract ⌝ }
@@ -141,14 +147,4 @@ pub fn next_concerned(image: &[u8], c: Call, k: usize) -> usize
         i += 1;
     }
     i
-}
-
-// What a close does at lot n; a quote goes another way (`visits`).
-pub fn event_at(image: &[u8], c: Call, n: u8) -> AtLot
-    requires { ⌜ Encoded (now image) × (validZone (decode (now image)) ≡ true) × (sweeps (c .kind) ≡ true) × (1 ≤ n) × (n ≤ receiptCount) ⌝ }
-    ensures { λ x. ⌜ x ≡ ruleAt c (decode (now (image .entry))) n ⌝ }
-{
-    let k = (n - 1) as usize;
-    let f = image::record_at(image, k);
-    steps::rule_of(view_of(image, c.account, f), c, n, f)
 }

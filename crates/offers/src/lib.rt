@@ -3,7 +3,7 @@ ghost use mathlib.Core.Path.{_≡_};
 ghost use Prim.Native.Nat.{_≤_};
 ghost use Rattle.units.specs.Ranges.{mostPrice, lastDay, mostDays};
 ghost use Rattle.zone.specs.Record.{recordOf, bidOf};
-ghost use Rattle.rules.specs.Effects.{dueDay, bidStands, struckReceipt, bidStruck, meetsAsk, register, listFor, listingEnded, limitBid, marketBid, withdrawBid, quoteMeets, quoteLot};
+ghost use Rattle.rules.specs.Effects.{dueDay, bidStands, struckReceipt, bidStruck, meetsAsk, register, listFor, listingEnded, limitBid, marketBid, withdrawBid, quoteMeets};
 ghost use Rattle.rules.specs.Ready.{Ready};
 use rules::AtLot;
 use rules::Call;
@@ -200,18 +200,5 @@ pub fn struck_record(v: View, f: Record) -> Record
         confirmed: Fen(0),
         paid: Fen(0),
         premium: premium,
-    }
-}
-
-// The rule as a whole: a bid that meets the ask is struck at its own price. A sweep goes by the two functions above; here comes the
-// record of no receipt, which a quote names.
-pub fn quote_at(v: View, c: Call, n: u8, f: Record) -> AtLot
-    requires { ⌜ Ready v f ⌝ }
-    ensures { λ x. ⌜ x ≡ quoteLot v c n f ⌝ }
-{
-    if quote_meets(v, c, f) {
-        strike(v, n, f, zone::bid_of(f))
-    } else {
-        AtLot::NoEvent
     }
 }

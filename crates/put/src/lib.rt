@@ -31,7 +31,6 @@ use units::CONTRACTS;
 use units::Fen;
 use units::YuanPerTonne;
 use zone::Account;
-use zone::Receipt;
 use zone::Record;
 
 // ── Runs of bytes ───────────────────────────────────────────────────────────────────────────────
@@ -122,17 +121,10 @@ pub fn no_asks(image: &mut [u8])
     wire::put_zeros(image, CONTRACT_START, CONTRACTS * ASK_LENGTH);
 }
 
-// The record of a receipt, for callers who have it at hand.
+// A receipt, by its record.
 pub fn receipt_record(image: &mut [u8], k: usize, f: Record)
     requires { ⌜ Encoded (now image) × (k < receiptCount) × (recordOf (receiptOf f) ≡ f) ⌝ }
     ensures { λ _. ⌜ now (image .exit) ≡ encode (withReceipts (decode (now (image .entry))) (set (decode (now (image .entry)) .receipts) k (receiptOf f))) ⌝ }
 {
     record_bytes(image, RECEIPT_START + k * RECEIPT_LENGTH, f);
-}
-
-pub fn receipt(image: &mut [u8], k: usize, r: Receipt)
-    requires { ⌜ Encoded (now image) × (k < receiptCount) ⌝ }
-    ensures { λ _. ⌜ now (image .exit) ≡ encode (withReceipts (decode (now (image .entry))) (set (decode (now (image .entry)) .receipts) k r)) ⌝ }
-{
-    receipt_record(image, k, zone::record_of(r));
 }

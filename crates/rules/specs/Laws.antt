@@ -2,7 +2,7 @@ pub mod Tables
 pub mod Moves
 pub mod Funded
 pub mod Kinds
-pub mod EveryKind
+pub mod Arms
 pub mod Steps
 pub mod Passed
 pub mod Good
@@ -15,4 +15,3 @@ pub mod Trades
 pub mod Links
 pub mod Keeps
 pub mod Ready
-pub mod Cases

@@ -160,7 +160,7 @@ pub enum Step {
 // ── Entries and receipts of an event ────────────────────────────────────────────────────────────
 
 // The receipt of a record, with this owner and lot: weight and premium stay.
-pub fn owned_by(owner: u8, f: Record, lot: Lot) -> Receipt
+fn owned_by(owner: u8, f: Record, lot: Lot) -> Receipt
     ensures { λ x. ⌜ x ≡ ownedBy owner f lot ⌝ }
 {
     let weight = f.weight;

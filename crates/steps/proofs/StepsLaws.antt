@@ -1,32 +1,64 @@
--- A call of no kind that has a rule.
+-- A call that has no rule at the receipt that it names.
 -- Assumes nothing.
+use mathlib.Core.Bool.{Bool, true, false, cond}
 use mathlib.Core.List.{List, [], _∷_}
-use mathlib.Core.Path.{_≡_}
+use mathlib.Core.Path.{_≡_, refl}
 use Prim.Native.Nat.{ℕ}
 use borrow.Author.Tests.{ne-eqb}
-use Rattle.rules.specs.Effects.{noRule, ruleOf}
+use lib.Dec.{leb}
+use Rattle.zone.specs.declared.Record.{Record}
+use Rattle.rules.specs.declared.AtLot.the-variants.{NoEvent}
+use Rattle.rules.specs.declared.Call.{Call}
+use Rattle.rules.specs.declared.View.{View}
+use Rattle.rules.specs.Effects.{noRule, ruleOf, quoteLot, closeLot, dayCloseLot, sweepKinds, sweeps}
+use Rattle.rules.specs.Laws.Tables.{among-each, among-none}
 
 -- k is none of the numbers, as the last arm of a `match` knows it
 abbrev pub NoneOf : ℕ → List ℕ → Type 0
 NoneOf k [] = Unit {0}
 NoneOf k (j ∷ js) = NoneOf k js × (k ≡ j → ⊥)
 
-pub no-rule : (k : ℕ) → NoneOf k (15 ∷ 14 ∷ 13 ∷ 12 ∷ 11 ∷ 10 ∷ 9 ∷ 8 ∷ 7 ∷ 6 ∷ 5 ∷ 4 ∷ 3 ∷ []) → ruleOf k ≡ noRule
-unfolding ruleOf
-no-rule k h =
-    let h9 = h .0 .0 .0 .0 .0 .0 in
-    rw (
-      ne-eqb k 15 (h .1),
-      ne-eqb k 14 (h .0 .1),
-      ne-eqb k 13 (h .0 .0 .1),
-      ne-eqb k 12 (h .0 .0 .0 .1),
-      ne-eqb k 11 (h .0 .0 .0 .0 .1),
-      ne-eqb k 10 (h .0 .0 .0 .0 .0 .1),
-      ne-eqb k 9 (h9 .1),
-      ne-eqb k 8 (h9 .0 .1),
-      ne-eqb k 7 (h9 .0 .0 .1),
-      ne-eqb k 6 (h9 .0 .0 .0 .1),
-      ne-eqb k 5 (h9 .0 .0 .0 .0 .1),
-      ne-eqb k 4 (h9 .0 .0 .0 .0 .0 .1),
-      ne-eqb k 3 (h9 .0 .0 .0 .0 .0 .0 .1),
-    )
+module _ (v : View) (c : Call) (n : ℕ) (f : Record) where
+  -- a call through all lots does nothing at an idle one
+  idle-none : f .state ≡ 0 → (k : ℕ) → sweeps k ≡ true → ruleOf k v c n f ≡ NoEvent
+  unfolding ruleOf quoteLot closeLot dayCloseLot
+  idle-none e k = among-each (λ j. ruleOf j v c n f ≡ NoEvent) k sweepKinds (quote, (morning, (day, tt)))
+    where
+      neither : (b : Bool) → cond b NoEvent NoEvent ≡ NoEvent
+      neither true = refl
+      neither false = refl
+
+      quote : ruleOf 9 v c n f ≡ NoEvent
+      quote = rw e
+
+      morning : ruleOf 11 v c n f ≡ NoEvent
+      morning = rw e (neither (leb (f .due) (v .day)))
+
+      day : ruleOf 15 v c n f ≡ NoEvent
+      day = rw e
+
+  pub no-event : (k : ℕ) → NoneOf k (14 ∷ 13 ∷ 12 ∷ 10 ∷ 8 ∷ 7 ∷ 6 ∷ 5 ∷ 4 ∷ 3 ∷ []) → (sweeps k ≡ true → f .state ≡ 0)
+      → ruleOf k v c n f ≡ NoEvent
+  unfolding ruleOf noRule
+  no-event k h i = go (sweeps k) refl
+    where
+      go : (b : Bool) → sweeps k ≡ b → ruleOf k v c n f ≡ NoEvent
+      go true s = idle-none (i s) k s
+      go false s =
+          let no = among-none k sweepKinds s in
+          let h7 = h .0 .0 .0 .0 .0 in
+          rw (
+            no .0,
+            no .1 .0,
+            no .1 .1 .0,
+            ne-eqb k 14 (h .1),
+            ne-eqb k 13 (h .0 .1),
+            ne-eqb k 12 (h .0 .0 .1),
+            ne-eqb k 10 (h .0 .0 .0 .1),
+            ne-eqb k 8 (h .0 .0 .0 .0 .1),
+            ne-eqb k 7 (h7 .1),
+            ne-eqb k 6 (h7 .0 .1),
+            ne-eqb k 5 (h7 .0 .0 .1),
+            ne-eqb k 4 (h7 .0 .0 .0 .1),
+            ne-eqb k 3 (h7 .0 .0 .0 .0 .1),
+          )

@@ -6,18 +6,13 @@ ghost use Rattle.units.specs.Ranges.{receiptCount};
 ghost use Rattle.zone.specs.Valid.{validZone};
 ghost use Rattle.image.specs.Image.{decode, Encoded};
 ghost use Rattle.rules.specs.Effects.{sweeps};
-ghost use Rattle.visits.specs.Noted.{Worked};
-use rules::AtLot;
+ghost use Rattle.lots.specs.Noted.{Worked};
+use lots::Noted;
 use rules::Call;
 use rules::Entry;
+use rules::KIND_MORNING_CLOSE;
 use rules::KIND_QUOTE;
 use rules::OUTCOME_STRUCK;
-
-// What is listed of the lot.
-pub enum Noted {
-    One(Entry),
-    Nothing,
-}
 
 // A quote, by far the most frequent call. What a bid holds stays frozen when it is struck: no money moves, and the record alone is put.
 fn strike_lot(image: &mut [u8], c: Call, n: u8) -> Noted
@@ -41,29 +36,15 @@ fn strike_lot(image: &mut [u8], c: Call, n: u8) -> Noted
     })
 }
 
-// A close: the rule is asked, and its event posted.
-fn post_lot(image: &mut [u8], c: Call, n: u8) -> Noted
-    requires { ⌜ Encoded (now image) × (validZone (decode (now image)) ≡ true) × (sweeps (c .kind) ≡ true) × (1 ≤ n) × (n ≤ receiptCount) ⌝ }
-    ensures { λ r. ⌜ Worked c n (now (image .entry)) (now (image .exit)) r ⌝ }
-{
-    let at = lots::event_at(image, c, n);
-    match at {
-        AtLot::Event(e, r) => {
-            events::post(image, e, r);
-            Noted::One(e)
-        }
-        AtLot::NoEvent => Noted::Nothing,
-    }
-}
-
 // What a call through all lots does at lot n.
 pub fn work_lot(image: &mut [u8], c: Call, n: u8) -> Noted
     requires { ⌜ Encoded (now image) × (validZone (decode (now image)) ≡ true) × (sweeps (c .kind) ≡ true) × (1 ≤ n) × (n ≤ receiptCount) ⌝ }
     ensures { λ r. ⌜ Worked c n (now (image .entry)) (now (image .exit)) r ⌝ }
 {
-    if c.kind == KIND_QUOTE {
-        strike_lot(image, c, n)
-    } else {
-        post_lot(image, c, n)
+    let kind = c.kind;
+    match kind {
+        KIND_QUOTE => strike_lot(image, c, n),
+        KIND_MORNING_CLOSE => closes::close_lot(image, c, n),
+        _ => closes::end_offer(image, c, n),
     }
 }

@@ -17,7 +17,7 @@ use Rattle.rules.specs.Events.{Done, afterLot, sweep}
 use Rattle.rules.specs.Laws.Good.{Good}
 use Rattle.answers.specs.Buffers.{listed}
 use Rattle.lots.specs.Laws.Visits.{good-decode}
-use Rattle.visits.specs.Noted.{entriesOf}
+use Rattle.lots.specs.Noted.{entriesOf}
 use Rattle.calls.specs.Laws.Good.{Of, bytes-of}
 use Rattle.calls.specs.Laws.Swept.{recorded, sweep-past, good-at, room, next-zone, next-entries, same-listed}
 use borrow.Author.Needs.{needs}

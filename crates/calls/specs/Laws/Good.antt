@@ -11,7 +11,7 @@ use Rattle.image.specs.Image.{decode, encode, Encoded, Fits}
 use Rattle.image.specs.Laws.RoundTrip.{decode-fits, decode-sized}
 use Rattle.rules.specs.Laws.Good.{Good, valid-of}
 use Rattle.events.specs.Laws.Moved.{encoded}
-use Rattle.visits.specs.Laws.Posts.{good-fits}
+use Rattle.lots.specs.Laws.Posts.{good-fits}
 
 -- s is the bytes of the good zone z
 pub record Of (s : List ℕ) (z : Zone) : Type 0 where

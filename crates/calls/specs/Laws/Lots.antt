@@ -19,7 +19,7 @@ use Rattle.rules.specs.Laws.Passed.{PassedAt, ranges, kind-in}
 use Rattle.rules.specs.Laws.Tables.{among-each}
 use Rattle.rules.specs.Tables.{among}
 use Rattle.events.specs.Posting.{CanPost}
-use Rattle.visits.specs.Laws.Posts.{visit-posts}
+use Rattle.lots.specs.Laws.Posts.{visit-posts}
 
 -- ── All lots ───────────────────────────────────────────────────────────────────────────────────
 

@@ -23,9 +23,9 @@ use Rattle.rules.specs.Laws.Links.{after-good}
 use Rattle.image.specs.Table.{tableBytes}
 use Rattle.answers.specs.Buffers.{entryPlace, entryBytes, listed}
 use Rattle.answers.specs.Laws.Entries.{put-next}
-use Rattle.visits.specs.declared.Noted.{Noted}
-use Rattle.visits.specs.declared.Noted.the-variants.{One, Nothing}
-use Rattle.visits.specs.Noted.{entriesOf}
+use Rattle.lots.specs.declared.Noted.{Noted}
+use Rattle.lots.specs.declared.Noted.the-variants.{One, Nothing}
+use Rattle.lots.specs.Noted.{entriesOf}
 
 -- the count and the answer that the code has after one step more
 abbrev pub recorded : ℕ × List ℕ → Noted → ℕ × List ℕ

@@ -1,18 +1,17 @@
 -- The receipt is changed, and each move of money finds what it needs.
-use mathlib.Core.Path.{_≡_, sym, ap, _∙_}
+use mathlib.Core.Path.{_≡_, ap, _∙_}
 use native.Mathlib.Omega.{arith}
 use denote.Ref.{now}
 use Rattle.zone.specs.declared.Zone.{Zone}
 use Rattle.zone.specs.Held.{holdOf}
-use Rattle.zone.specs.Parts.{withAccounts, withReceipts}
+use Rattle.zone.specs.Parts.{withAccounts}
 use Rattle.zone.specs.Record.{recordOf}
 use Rattle.image.specs.Image.{decode, encode}
 use Rattle.image.specs.Laws.RoundTrip.{same-long}
-use Rattle.rules.specs.Events.{credit, debit, release, freeze, accountsAfter, posted}
-use Rattle.rules.specs.Laws.Tables.{put-index}
+use Rattle.rules.specs.Events.{moneyMoved, accountsAfter, posted}
 use Rattle.rules.specs.Ready.{Funds}
 use Rattle.rules.specs.View.{recordOfReceipt}
-use Rattle.events.specs.Laws.Moved.{ReceiptPut, receipt-put, encoded, record-valid, record-in-place}
+use Rattle.events.specs.Laws.Moved.{ReceiptPut, record-put, record-kept, encoded, record-valid, record-in-place}
 use borrow.Author.Needs.{needs}
 use Rattle.events.proofs.post.Statement.{statement}
 use Rattle.events.proofs.post.Tie as tie
@@ -29,15 +28,12 @@ holds : (c : tie.After-hold-of2) → c .hold-of2 .result ≡ holdOf (recordOf (c
 holds c = c .hold-of2 .ensures ∙ ap holdOf (c .before .record-of .ensures)
 
 -- the image with the lot's receipt changed
-receipt-changed : (c : tie.After-receipt) → ReceiptPut (now (c .before .before .before .before .before .before .before .before .before .args .image)) (c .receipt .last .0) (c .before .before .before .before .before .before .before .before .before .args .e .lot) (c .before .before .before .before .before .before .before .before .before .args .r)
-receipt-changed c =
-    let z = decode (now (c .before .before .before .before .before .before .before .before .before .args .image)) in
-    receipt-put (c .before .before .before .before .before .before .before .before .before .pre .1 .fits) (c .before .before .before .before .before .before .before .before .before .pre .1 .valid)
-    (c .receipt .ensures ∙ ap (λ l. encode (withReceipts z l)) (sym (put-index (z .receipts) (c .before .before .before .before .before .before .before .before .before .args .e .lot) (c .before .before .before .before .before .before .before .before .before .args .r) (c .before .before .before .before .before .before .before .before .before .pre .1 .low))))
+receipt-changed : (c : tie.After-receipt-record) → ReceiptPut (now (c .before .before .before .before .before .before .before .before .before .args .image)) (c .receipt-record .last .0) (c .before .before .before .before .before .before .before .before .before .args .e .lot) (c .before .before .before .before .before .before .before .before .before .args .r)
+receipt-changed c = record-put (c .before .before .before .before .before .before .before .before .before .pre .1 .fits) (c .before .before .before .before .before .before .before .before .before .pre .1 .valid) (c .before .before .before .before .before .before .before .before .before .pre .1 .low) (c .before .before .before .record-of .ensures) (c .receipt-record .ensures)
 
 -- the moves find their money
 funds : (c : tie.After-money-of) →
-    Funds (decode (c .before .before .before .before .receipt .last .0) .accounts) (c .before .before .before .before .before .before .before .before .hold-of .result) (c .before .before .before .before .before .before .before .before .before .before .before .before .before .args .e .from) (c .before .before .before .before .before .before .before .before .before .before .before .before .before .args .e .to) (c .money-of .result) (c .before .before .before .before .before .before .hold-of2 .result)
+    Funds (decode (c .before .before .before .before .receipt-record .last .0) .accounts) (c .before .before .before .before .before .before .before .before .hold-of .result) (c .before .before .before .before .before .before .before .before .before .before .before .before .before .args .e .from) (c .before .before .before .before .before .before .before .before .before .before .before .before .before .args .e .to) (c .money-of .result) (c .before .before .before .before .before .before .hold-of2 .result)
 funds c = rw (receipt-changed (c .before .before .before .before) .zone, c .money-of .ensures, holds (c .before .before .before .before .before .before), held (c .before .before .before .before .before .before .before .before)) (c .before .before .before .before .before .before .before .before .before .before .before .before .before .pre .1 .funded)
 
 sub-k : tie.Need-sub-k
@@ -58,8 +54,8 @@ record-of-requires c κs = search needs
 hold-of-requires-2 : tie.Need-hold-of-requires-2
 hold-of-requires-2 c κs = rw (c .record-of .ensures) (c .before .before .before .before .before .before .pre .1 .valid)
 
-receipt-requires : tie.Need-receipt-requires
-receipt-requires c κs = (c .before .before .before .before .before .before .before .before .pre .0, omega (arith, c .before .before .before .before .before .before .before .before .pre .1 .high))
+receipt-record-requires : tie.Need-receipt-record-requires
+receipt-record-requires c κs = (c .before .before .before .before .before .before .before .before .pre .0, omega (arith, c .before .before .before .before .before .before .before .before .pre .1 .high), record-kept _ (c .before .before .record-of .ensures))
 
 money-of-requires : tie.Need-money-of-requires
 money-of-requires c κs = search needs
@@ -76,9 +72,7 @@ returns : tie.Need-returns
 unfolding posted accountsAfter
 returns c =
     c .before .before .move-money .ensures
-    ∙ ap
-    (λ (y : Zone).
-    encode (withAccounts y (freeze (c .before .before .before .before .before .before .before .before .before .hold-of2 .result .from) (c .before .before .before .before .before .before .before .before .before .hold-of2 .result .fen) (credit (c .before .before .before .before .before .before .before .before .before .before .before .before .before .before .before .before .args .e .to) (c .before .before .before .money-of .result) (debit (c .before .before .before .before .before .before .before .before .before .before .before .before .before .before .before .before .args .e .from) (c .before .before .before .money-of .result) (release (c .before .before .before .before .before .before .before .before .before .before .before .hold-of .result .from) (c .before .before .before .before .before .before .before .before .before .before .before .hold-of .result .fen) (y .accounts)))))))
+    ∙ ap (λ (y : Zone). encode (withAccounts y (moneyMoved (c .before .before .before .before .before .before .before .before .before .before .before .hold-of .result) (c .before .before .before .before .before .before .before .before .before .before .before .before .before .before .before .before .args .e .from) (c .before .before .before .before .before .before .before .before .before .before .before .before .before .before .before .before .args .e .to) (c .before .before .before .money-of .result) (c .before .before .before .before .before .before .before .before .before .hold-of2 .result) (y .accounts))))
     (receipt-changed (c .before .before .before .before .before .before .before) .zone)
     ∙ rw (c .before .before .before .money-of .ensures, holds (c .before .before .before .before .before .before .before .before .before), held (c .before .before .before .before .before .before .before .before .before .before .before))
 
@@ -92,7 +86,7 @@ post-spec =
     hold-of-requires
     record-of-requires
     hold-of-requires-2
-    receipt-requires
+    receipt-record-requires
     money-of-requires
     move-money-requires
     same-length

@@ -5,17 +5,19 @@ use mathlib.Core.List.{List}
 use mathlib.Core.Path.{_≡_, sym, ap, _∙_}
 use Prim.Native.Nat.{ℕ, _-_, _≤_, _<_}
 use native.Mathlib.Omega.{arith}
-use lib.ListN.{length}
+use lib.ListN.{length, set}
 use Rattle.units.specs.declared.Fen.{Fen}
 use Rattle.units.specs.Ranges.{accountCount, receiptCount, moneyLimit}
 use Rattle.zone.specs.declared.Account.{Account}
 use Rattle.zone.specs.declared.Hold.{Hold}
 use Rattle.zone.specs.declared.Receipt.{Receipt}
+use Rattle.zone.specs.declared.Record.{Record}
 use Rattle.zone.specs.declared.Zone.{Zone}
 use Rattle.zone.specs.Held.{allMoney}
+use Rattle.zone.specs.Laws.Back.{receipt-back}
 use Rattle.zone.specs.Laws.Facts.{none-valid}
 use Rattle.zone.specs.Parts.{withAccounts, withReceipts}
-use Rattle.zone.specs.Record.{recordOf}
+use Rattle.zone.specs.Record.{recordOf, receiptOf}
 use Rattle.zone.specs.Valid.{Sized, noReceipt, recordValid}
 use Rattle.image.specs.Image.{decode, encode, Encoded, Fits}
 use Rattle.image.specs.Layout.{recordIn, receiptRun}
@@ -23,7 +25,7 @@ use Rattle.image.specs.Laws.RoundTrip.{decode-fits, decode-sized, record-here}
 use Rattle.rules.specs.Events.{credit, debit, release}
 use Rattle.rules.specs.Laws.Funded.{all-released, all-debited, all-credited}
 use Rattle.rules.specs.Laws.Moves.{length-credit, length-debit, length-release}
-use Rattle.rules.specs.Laws.Tables.{length-put, nth-index, all-nth, all-put}
+use Rattle.rules.specs.Laws.Tables.{length-put, nth-index, put-index, all-nth, all-put}
 use Rattle.rules.specs.Ready.{Funds}
 use Rattle.rules.specs.Tables.{put}
 use Rattle.rules.specs.View.{receiptOfNumber, recordOfReceipt}
@@ -123,3 +125,16 @@ receipt-put {s} {s′} {n} {r} F v e =
       total = F .total;
     } in
     record { is = e; zone = ap decode e ∙ decode-fits z S T; fits = T }
+
+-- a record that is the receipt's is had back from its receipt
+pub record-kept : {f : Record} (r : Receipt) → f ≡ recordOf r → recordOf (receiptOf f) ≡ f
+record-kept r e = ap (λ (g : Record). recordOf (receiptOf g)) e ∙ ap recordOf (receipt-back r) ∙ sym e
+
+-- the receipt changed by its record
+pub record-put : {s s′ : List ℕ} {n : ℕ} {r : Receipt} {f : Record} → Fits (decode s) → recordValid (recordOf r) ≡ true → 0 < n → f ≡ recordOf r
+    → s′ ≡ encode (withReceipts (decode s) (set (decode s .receipts) (n - 1) (receiptOf f))) → ReceiptPut s s′ n r
+record-put {s} {s′} {n} {r} {f} F v low e is =
+    receipt-put F v
+    (is
+    ∙ ap (λ (x : Receipt). encode (withReceipts (decode s) (set (decode s .receipts) (n - 1) x))) (ap receiptOf e ∙ receipt-back r)
+    ∙ ap (λ (l : List Receipt). encode (withReceipts (decode s) l)) (sym (put-index (decode s .receipts) n r low)))

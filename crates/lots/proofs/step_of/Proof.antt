@@ -5,7 +5,7 @@ use Rattle.image.specs.Laws.RoundTrip.{encode-decode, valid-long, valid-decode,
 use Rattle.rules.specs.Laws.Good.{Good}
 use Rattle.rules.specs.Laws.Ready.{ready-at}
 use Rattle.events.specs.Laws.Moved.{record-valid}
-use Rattle.lots.specs.Laws.Visits.{good-decode}
+use Rattle.lots.specs.Laws.Visits.{good-decode, none-idle}
 use Rattle.lots.proofs.step_of.Statement.{statement}
 use Rattle.lots.proofs.step_of.Tie as tie
 
@@ -19,7 +19,8 @@ step-at-requires : tie.Need-step-at-requires
 step-at-requires c κs =
     let z = decode (now (c .before .before .before .args .image)) in
     let G : Good z = good-decode _ (valid-decode _ (c .before .before .before .pre)) in
-    rw (c .view-of .ensures, c .before .record-of-receipt .ensures) (ready-at z G (c .before .before .before .args .c) _)
+    rw (c .view-of .ensures, c .before .record-of-receipt .ensures)
+    (ready-at z G (c .before .before .before .args .c) (c .before .before .before .args .c .receipt), none-idle z (c .before .before .before .args .c .receipt))
 
 returns : tie.Need-returns
 returns c = rw (c .step-at .ensures, c .before .view-of .ensures, c .before .before .record-of-receipt .ensures)

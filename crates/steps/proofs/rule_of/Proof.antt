@@ -1,8 +1,8 @@
 -- In each arm the callee does what the rule of one kind says, and `ruleOf` computes at that kind.
 use mathlib.Core.Path.{_≡_, sym, ap, _∙_}
 use Prim.Native.Nat.{ℕ}
-use Rattle.rules.specs.Effects.{Rule, ruleOf, noRule, withdrawListing}
-use Rattle.steps.proofs.StepsLaws.{no-rule}
+use Rattle.rules.specs.Effects.{ruleOf, withdrawListing}
+use Rattle.steps.proofs.StepsLaws.{no-event}
 use borrow.Author.Needs.{needs}
 use Rattle.steps.proofs.rule_of.Statement.{statement}
 use Rattle.steps.proofs.rule_of.Tie as tie
@@ -30,26 +30,17 @@ market-bid-requires c κs = search needs
 withdraw-bid-requires : tie.Need-withdraw-bid-requires
 withdraw-bid-requires c κs = search needs
 
-quote-at-requires : tie.Need-quote-at-requires
-quote-at-requires c κs = search needs
-
 lodge-at-requires : tie.Need-lodge-at-requires
 lodge-at-requires c κs = search needs
-
-close-at-requires : tie.Need-close-at-requires
-close-at-requires c κs = search needs
 
 pay-first-requires : tie.Need-pay-first-requires
 pay-first-requires c κs = search needs
 
 invoice-at-requires : tie.Need-invoice-at-requires
-invoice-at-requires c κs = c .before .pre .1 .invoice (c .match .keys11)
+invoice-at-requires c κs = c .before .pre .1 .invoice (c .match .keys9)
 
 confirm-at-requires : tie.Need-confirm-at-requires
-confirm-at-requires c κs = let p = c .before .pre .1 .pending (c .match .keys12) in (c .before .pre .0 .valid, p .0, p .1)
-
-day-close-at-requires : tie.Need-day-close-at-requires
-day-close-at-requires c κs = search needs
+confirm-at-requires c κs = let p = c .before .pre .1 .pending (c .match .keys10) in (c .before .pre .0 .valid, p .0, p .1)
 
 returns : tie.Need-returns
 unfolding ruleOf
@@ -77,37 +68,24 @@ returns-6 c = c .withdraw-bid .ensures ∙ of-kind (c .before .before) 8 (c .bef
 
 returns-7 : tie.Need-returns-7
 unfolding ruleOf
-returns-7 c = c .quote-at .ensures ∙ of-kind (c .before .before) 9 (c .before .match .keys7)
+returns-7 c = c .lodge-at .ensures ∙ of-kind (c .before .before) 10 (c .before .match .keys7)
 
 returns-8 : tie.Need-returns-8
 unfolding ruleOf
-returns-8 c = c .lodge-at .ensures ∙ of-kind (c .before .before) 10 (c .before .match .keys8)
+returns-8 c = c .pay-first .ensures ∙ of-kind (c .before .before) 12 (c .before .match .keys8)
 
 returns-9 : tie.Need-returns-9
 unfolding ruleOf
-returns-9 c = c .close-at .ensures ∙ of-kind (c .before .before) 11 (c .before .match .keys9)
+returns-9 c = c .invoice-at .ensures ∙ of-kind (c .before .before) 13 (c .before .match .keys9)
 
 returns-10 : tie.Need-returns-10
 unfolding ruleOf
-returns-10 c = c .pay-first .ensures ∙ of-kind (c .before .before) 12 (c .before .match .keys10)
+returns-10 c = c .confirm-at .ensures ∙ of-kind (c .before .before) 14 (c .before .match .keys10)
 
 returns-11 : tie.Need-returns-11
-unfolding ruleOf
-returns-11 c = c .invoice-at .ensures ∙ of-kind (c .before .before) 13 (c .before .match .keys11)
-
-returns-12 : tie.Need-returns-12
-unfolding ruleOf
-returns-12 c = c .confirm-at .ensures ∙ of-kind (c .before .before) 14 (c .before .match .keys12)
-
-returns-13 : tie.Need-returns-13
-unfolding ruleOf
-returns-13 c = c .day-close-at .ensures ∙ of-kind (c .before .before) 15 (c .before .match .keys13)
-
-returns-14 : tie.Need-returns-14
-unfolding noRule
-returns-14 c =
+returns-11 c =
     let a = c .before .args in
-    sym (ap (λ (rule : Rule). rule (a .v) (a .c) (a .n) (a .f)) (no-rule (a .c .kind) (c .match .rest)))
+    sym (no-event (a .v) (a .c) (a .n) (a .f) (a .c .kind) (c .match .rest) (c .before .pre .2))
 
 pub rule-of-spec : {M : Type 1} → statement M
 rule-of-spec =
@@ -119,13 +97,10 @@ rule-of-spec =
     limit-bid-requires
     market-bid-requires
     withdraw-bid-requires
-    quote-at-requires
     lodge-at-requires
-    close-at-requires
     pay-first-requires
     invoice-at-requires
     confirm-at-requires
-    day-close-at-requires
     returns
     returns-2
     returns-3
@@ -136,7 +111,4 @@ rule-of-spec =
     returns-8
     returns-9
     returns-10
-    returns-11
-    returns-12
-    returns-13
-    returns-14)
+    returns-11)

@@ -22,9 +22,9 @@ use Rattle.rules.specs.Laws.Tables.{put-index}
 use Rattle.rules.specs.View.{viewOf, recordOfReceipt}
 use Rattle.events.specs.Laws.Moved.{record-in-place, record-valid}
 use Rattle.lots.specs.Laws.Visits.{good-decode}
-use Rattle.visits.specs.declared.Noted.the-variants.{One}
+use Rattle.lots.specs.declared.Noted.the-variants.{One}
 use Rattle.visits.specs.Laws.Strikes.{not-met, met, money-stays}
-use Rattle.visits.specs.Noted.{entriesOf}
+use Rattle.lots.specs.Noted.{entriesOf}
 use borrow.Author.Needs.{needs}
 use Rattle.visits.proofs.strike_lot.Statement.{statement}
 use Rattle.visits.proofs.strike_lot.Tie as tie

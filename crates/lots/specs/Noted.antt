@@ -8,8 +8,8 @@ use Rattle.rules.specs.declared.Call.{Call}
 use Rattle.rules.specs.declared.Entry.{Entry}
 use Rattle.rules.specs.Effects.{ruleAt}
 use Rattle.rules.specs.Events.{Done, afterLot}
-use Rattle.visits.specs.declared.Noted.{Noted}
-use Rattle.visits.specs.declared.Noted.the-variants.{One, Nothing}
+use Rattle.lots.specs.declared.Noted.{Noted}
+use Rattle.lots.specs.declared.Noted.the-variants.{One, Nothing}
 
 -- the entries of each case
 abbrev pub entriesOf : Noted → List Entry
