@@ -19,7 +19,7 @@ use rules::KIND_TAKE_OUT;
 use rules::KIND_WITHDRAW_BID;
 use rules::KIND_WITHDRAW_LISTING;
 
-// Contract, D, basis and weight are zero: the call neither lists nor registers.
+// Contract, D, basis and weight, which only listings, quotes and registrations use, are zero.
 fn no_terms(c: Call) -> bool
     ensures { λ r. ⌜ r ≡ eqb (c .contract) 0 && eqb (c .days) 0 && isZero (c .basis) && eqb (c .weight) 0 ⌝ }
 {
@@ -60,7 +60,7 @@ pub fn unused_zero(c: Call) -> bool
     named_zero(c) & (c.spare == 0)
 }
 
-// An account acts on a receipt.
+// Account and receipt are in their ranges.
 fn names_lot(c: Call) -> bool
     ensures { λ r. ⌜ r ≡ isAccount (c .account) && isReceipt (c .receipt) ⌝ }
 {

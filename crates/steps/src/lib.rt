@@ -43,7 +43,7 @@ fn rule_of(v: View, c: Call, n: u8, f: Record) -> AtLot
     }
 }
 
-// Receipt 0 is none, and its record is idle.
+// The outcome at f, the record of the receipt that the call names. Receipt 0 is none, and its record is idle.
 pub fn step_at(v: View, c: Call, f: Record) -> Step
     requires { ⌜ Ready v f × (c .receipt ≡ 0 → f .state ≡ 0) ⌝ }
     ensures { λ x. ⌜ x ≡ stepAt v c f ⌝ }

@@ -226,9 +226,9 @@ fn all_set(marks: &[bool]) -> bool
     ok
 }
 
-// Whether the records are valid, each frozen is what the lots hold from that account, and the total is all money. The loop decides nothing:
-// it gathers the bits of free money and those in which frozen money differs, and sums that may wrap, and is vector code so. Where free money
-// has no bit from 2^50 on, no sum has wrapped; where it has one, it is above the limit of all money.
+// Whether the records are valid, each frozen is what the lots hold from that account, and the total is all money. The loop decides nothing,
+// so that it becomes vector code: it gathers the bits of free money, those in which frozen money differs, and one sum that may wrap. Where
+// free money has no bit from 2^50 on, the sum has not wrapped; where it has one, that money is above the limit of all money.
 fn books_ok(image: &[u8], total: u64) -> bool
     requires { ⌜ (length (now image) ≡ imageLength) × (total ≤ moneyLimit) ⌝ }
     ensures { λ r. ⌜ r ≡ booksBySums (now (image .entry)) total ⌝ }

@@ -134,7 +134,7 @@ credit-to-requires : tie.Need-credit-to-requires
 credit-to-requires c κs =
     let B = lost (c .before .before .before .before .before .before .before .before .before .before .before) in
     let M = taken (c .before .before .before) in
-    (asked M .0, asked M .1, to-in B, λ _. omega (arith, all-debited (B .funds), B .fits .money))
+    (asked M .0, asked M .1, omega (arith, from-in B, to-in B), λ _. omega (arith, all-debited (B .funds), B .fits .money))
 
 cast-by-buyer-2 : tie.Need-cast-by-buyer-2
 cast-by-buyer-2 c = search needs

@@ -61,7 +61,7 @@ credit-to-requires : tie.Need-credit-to-requires
 credit-to-requires c κs =
     let B = begun (c .before .before .before .before .before .before .before) in
     let A = asked (taken (c .before .before .before)) in
-    (A .0, A .1, to-in B, λ _. omega (arith, all-debited (B .funds), B .fits .money))
+    (A .0, A .1, omega (arith, from-in B, to-in B), λ _. omega (arith, all-debited (B .funds), B .fits .money))
 
 cast-by-seller : tie.Need-cast-by-seller
 cast-by-seller c =

@@ -206,14 +206,14 @@ held-anew old from to new l =
     let m : List Account = release (old .from) (old .fen) l in
     ap (freeze (new .from) (new .fen)) (credit-nothing to (debit from (fen 0) m) ∙ debit-nothing from m)
 
--- what the lot held passes, and nothing is held after
+-- money passes, and nothing is held after
 pub passed-on : (old : Hold) (from to : ℕ) (k : Fen) (a : ℕ) (l : List Account)
     → moneyMoved old from to k (record { from = a; fen = fen 0 }) l ≡ credit to k (debit from k (release (old .from) (old .fen) l))
 passed-on old from to k a l = freeze-nothing a (credit to k (debit from k (release (old .from) (old .fen) l)))
 
 -- ── What a lot holds ───────────────────────────────────────────────────────────────────────────
 
--- the deposit, from when a bid stands until it is paid or over
+-- the deposit, from a standing bid until the lot settles or ends
 pub holds-deposit : (f : Record) (k : ℕ) → f .state ≡ k → among k (2 ∷ 3 ∷ 4 ∷ []) ≡ true → holdOf f ≡ record { from = f .buyer; fen = deposit }
 unfolding held
 holds-deposit f k e w = λ i. record { from = f .buyer; fen = fact i }

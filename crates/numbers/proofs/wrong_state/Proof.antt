@@ -9,7 +9,7 @@ use Rattle.rules.specs.Laws.Arms.{at-run, past, above, below}
 use Rattle.numbers.proofs.wrong_state.Statement.{statement}
 use Rattle.numbers.proofs.wrong_state.Tie as tie
 
--- a state alone, and a test that is said no to twice
+-- one state alone, and a double negation
 ruleset plain = (cond-or, or-false, Bool·not-not)
 
 returns : tie.Need-returns
