@@ -38,7 +38,7 @@ extern "C" {
 
 #define CRZ_VERSION_MAJOR 3
 #define CRZ_VERSION_MINOR 2
-#define CRZ_VERSION_PATCH 0
+#define CRZ_VERSION_PATCH 1
 #define CRZ_VERSION "3.2.1"
 
 /* ── Lengths and counts ────────────────────────────────────────────────────────────────────────── */
