@@ -1,17 +1,17 @@
 -- A call that has no rule at the receipt that it names.
 -- Assumes nothing.
-use mathlib.Core.Bool.{Bool, true, false, cond}
+use mathlib.Core.Bool.{Bool, true, false}
 use mathlib.Core.List.{List, [], _∷_}
 use mathlib.Core.Path.{_≡_, refl}
 use Prim.Native.Nat.{ℕ}
 use borrow.Author.Tests.{ne-eqb}
-use lib.Dec.{leb}
 use Rattle.zone.specs.declared.Record.{Record}
 use Rattle.rules.specs.declared.AtLot.the-variants.{NoEvent}
 use Rattle.rules.specs.declared.Call.{Call}
 use Rattle.rules.specs.declared.View.{View}
-use Rattle.rules.specs.Effects.{noRule, ruleOf, quoteLot, closeLot, dayCloseLot, sweepKinds, sweeps}
+use Rattle.rules.specs.Effects.{noRule, ruleOf, quoteLot, dayCloseLot, sweepKinds, sweeps}
 use Rattle.rules.specs.Laws.Tables.{among-each, among-none}
+use Rattle.rules.specs.Laws.Trades.{close-none}
 
 -- k is none of the numbers, as the last arm of a `match` knows it
 abbrev pub NoneOf : ℕ → List ℕ → Type 0
@@ -21,18 +21,14 @@ NoneOf k (j ∷ js) = NoneOf k js × (k ≡ j → ⊥)
 module _ (v : View) (c : Call) (n : ℕ) (f : Record) where
   -- a call through all lots does nothing at an idle one
   idle-none : f .state ≡ 0 → (k : ℕ) → sweeps k ≡ true → ruleOf k v c n f ≡ NoEvent
-  unfolding ruleOf quoteLot closeLot dayCloseLot
+  unfolding ruleOf quoteLot dayCloseLot
   idle-none e k = among-each (λ j. ruleOf j v c n f ≡ NoEvent) k sweepKinds (quote, (morning, (day, tt)))
     where
-      neither : (b : Bool) → cond b NoEvent NoEvent ≡ NoEvent
-      neither true = refl
-      neither false = refl
-
       quote : ruleOf 9 v c n f ≡ NoEvent
       quote = rw e
 
       morning : ruleOf 11 v c n f ≡ NoEvent
-      morning = rw e (neither (leb (f .due) (v .day)))
+      morning = close-none v n f (rw e)
 
       day : ruleOf 15 v c n f ≡ NoEvent
       day = rw e

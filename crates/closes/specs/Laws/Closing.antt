@@ -30,7 +30,7 @@ use Rattle.rules.specs.Effects.{entryOf, ownedBy, withLot, hasMoney, closeLot, 
 use Rattle.rules.specs.Events.{credit, debit, release, freeze, moneyMoved, moneyOf, accountsAfter, posted, afterLot}
 use Rattle.rules.specs.Laws.Chain.{swept}
 use Rattle.rules.specs.Laws.Ready.{ready-at}
-use Rattle.rules.specs.Laws.Tables.{among-each}
+use Rattle.rules.specs.Laws.Trades.{close-none}
 use Rattle.rules.specs.Ready.{Funds}
 use Rattle.rules.specs.Tables.{among}
 use Rattle.rules.specs.View.{freeOf, viewOf, recordOfReceipt}
@@ -107,8 +107,7 @@ module _ {c : Call} {n : ℕ} {s : List ℕ} {f : Record} (D : Due c n s f) wher
 
   -- a lot in another state is no lot that the morning close works
   pub no-close : (f .state ≡ 4 → ⊥) → (f .state ≡ 3 → ⊥) → (f .state ≡ 7 → ⊥) → ruleAt c (decode s) n ≡ NoEvent
-  unfolding closeLot viewOf
-  no-close a b d = by-close ∙ rw (le-leb _ _ (D .day), ne-eqb _ 4 a, ne-eqb _ 3 b, ne-eqb _ 7 d)
+  no-close a b d = by-close ∙ close-none (viewOf (decode s) (c .account) f) n f (rw (ne-eqb (f .state) 3 b, ne-eqb (f .state) 4 a, ne-eqb (f .state) 7 d))
 
 -- nor is one that is not due
 pub not-due : (c : Call) (n : ℕ) (s : List ℕ) {f : Record} → c .kind ≡ 11 → f ≡ recordOfReceipt (decode s) n → decode s .day < f .due
@@ -213,21 +212,13 @@ passed-on old from to k a l = freeze-nothing a (credit to k (debit from k (relea
 
 -- ── What a lot holds ───────────────────────────────────────────────────────────────────────────
 
--- the deposit, from a standing bid until the lot settles or ends
-pub holds-deposit : (f : Record) (k : ℕ) → f .state ≡ k → among k (2 ∷ 3 ∷ 4 ∷ []) ≡ true → holdOf f ≡ record { from = f .buyer; fen = deposit }
-unfolding held
-holds-deposit f k e w = λ i. record { from = f .buyer; fen = fact i }
-  where
-    fact : held f ≡ deposit
-    fact = among-each (λ j. f .state ≡ j → held f ≡ deposit) k (2 ∷ 3 ∷ 4 ∷ []) ((λ h. rw h), ((λ h. rw h), ((λ h. rw h), tt))) w e
+-- h fen from account a
+abbrev pub from : ℕ → Fen → Hold
+from a h = record { from = a; fen = h }
 
--- nothing, in the states that hold none
-pub holds-nothing : (f : Record) (k : ℕ) → f .state ≡ k → among k (0 ∷ 1 ∷ 7 ∷ []) ≡ true → holdOf f ≡ record { from = f .buyer; fen = fen 0 }
-unfolding held
-holds-nothing f k e w = λ i. record { from = f .buyer; fen = fact i }
-  where
-    fact : held f ≡ fen 0
-    fact = among-each (λ j. f .state ≡ j → held f ≡ fen 0) k (0 ∷ 1 ∷ 7 ∷ []) ((λ h. rw h), ((λ h. rw h), ((λ h. rw h), tt))) w e
+-- the hold of the record that was read, by its amount
+had : (z : Zone) (n : ℕ) (f : Record) {h : Fen} → f ≡ recordOfReceipt z n → held f ≡ h → holdOf (recordOfReceipt z n) ≡ from (f .buyer) h
+had z n f r e = ap holdOf (sym r) ∙ (λ i. from (f .buyer) (e i))
 
 -- ── The five events of a morning close, begun ──────────────────────────────────────────────────
 
@@ -235,49 +226,49 @@ holds-nothing f k e w = λ i. record { from = f .buyer; fen = fact i }
 abbrev pub RecordPut : ℕ → List ℕ → Record → List ℕ → Type 0
 RecordPut n s g s₁ = s₁ ≡ encode (withReceipts (decode s) (set (decode s .receipts) (n - 1) (receiptOf g)))
 
--- h fen from account a
-abbrev pub from : ℕ → Fen → Hold
-from a h = record { from = a; fen = h }
-
-module _ {c : Call} {n : ℕ} {s : List ℕ} {f : Record} (D : Due c n s f) where
-  -- a morning close goes through all lots
-  through : sweeps (c .kind) ≡ true
-  through = rw (D .kind)
-
-  -- the lot held the deposit
-  had-deposit : {h : Fen} (k : ℕ) → f .state ≡ k → among k (2 ∷ 3 ∷ 4 ∷ []) ≡ true → h ≡ deposit → holdOf (recordOfReceipt (decode s) n) ≡ from (f .buyer) h
-  had-deposit k e w q = ap holdOf (sym (D .read)) ∙ holds-deposit f k e w ∙ (λ i. from (f .buyer) (sym q i))
+-- a morning close goes through all lots
+through : {c : Call} {n : ℕ} {s : List ℕ} {f : Record} → Due c n s f → sweeps (c .kind) ≡ true
+through D = rw (D .kind)
 
 module _ {c : Call} {n : ℕ} {s : List ℕ} {f : Record} (D : Due c n s f) {g : Record} {s₁ : List ℕ} (p : RecordPut n s g s₁) {h : Fen} where
   pub settled-begun : {w : Fen} → f .state ≡ 4 → hasMoney (viewOf (decode s) (c .account) f) f ≡ true → h ≡ deposit → w ≡ full f
       → g ≡ recordOf (ownedBy (f .buyer) f (Settled (tradeOf f)))
       → Begun s s₁ (entryOf n 8 (f .seller) (f .buyer) (full f .0)) (ownedBy (f .buyer) f (Settled (tradeOf f))) (from (f .buyer) h) (fen 0) (from (f .buyer) w)
   unfolding moneyOf recordOf held full
-  settled-begun e m q u i = begun (can-post c n s (D .at) (through D) (settles D e m)) i p (had-deposit D 4 e refl q) refl (λ i. from (f .buyer) (sym u i))
+  settled-begun e m q u i =
+      let d : held f ≡ deposit = rw e in
+      begun (can-post c n s (D .at) (through D) (settles D e m)) i p (had (decode s) n f (D .read) (d ∙ sym q)) refl (λ i. from (f .buyer) (sym u i))
 
   pub buyer-begun : f .state ≡ 4 → hasMoney (viewOf (decode s) (c .account) f) f ≡ false → h ≡ deposit → g ≡ recordOf (withLot f Idle)
       → Begun s s₁ (entryOf n 12 (f .seller) (f .buyer) (deposit .0)) (withLot f Idle) (from (f .buyer) h) h (from 0 (fen 0))
   unfolding moneyOf recordOf held
-  buyer-begun e m q i = begun (can-post c n s (D .at) (through D) (buyer-defaults D e m)) i p (had-deposit D 4 e refl q) (sym q) refl
+  buyer-begun e m q i =
+      let d : held f ≡ deposit = rw e in
+      begun (can-post c n s (D .at) (through D) (buyer-defaults D e m)) i p (had (decode s) n f (D .read) (d ∙ sym q)) (sym q) refl
 
   pub seller-begun : f .state ≡ 3 → hasMoney (viewOf (decode s) (c .account) f) f ≡ true → h ≡ deposit
       → g ≡ recordOf (withLot f (PenaltyDue (f .seller) (f .buyer) (decode s .day + 1)))
       → Begun s s₁ (entryOf n 13 (f .seller) (f .buyer) 0) (withLot f (PenaltyDue (f .seller) (f .buyer) (decode s .day + 1))) (from (f .buyer) h) (fen 0)
       (from (f .buyer) (fen 0))
   unfolding moneyOf recordOf held
-  seller-begun e m q i = begun (can-post c n s (D .at) (through D) (seller-defaults D e m)) i p (had-deposit D 3 e refl q) refl refl
+  seller-begun e m q i =
+      let d : held f ≡ deposit = rw e in
+      begun (can-post c n s (D .at) (through D) (seller-defaults D e m)) i p (had (decode s) n f (D .read) (d ∙ sym q)) refl refl
 
   pub both-begun : f .state ≡ 3 → hasMoney (viewOf (decode s) (c .account) f) f ≡ false → h ≡ deposit → g ≡ recordOf (withLot f Idle)
       → Begun s s₁ (entryOf n 14 (f .seller) (f .buyer) 0) (withLot f Idle) (from (f .buyer) h) (fen 0) (from 0 (fen 0))
   unfolding moneyOf recordOf held
-  both-begun e m q i = begun (can-post c n s (D .at) (through D) (both-default D e m)) i p (had-deposit D 3 e refl q) refl refl
+  both-begun e m q i =
+      let d : held f ≡ deposit = rw e in
+      begun (can-post c n s (D .at) (through D) (both-default D e m)) i p (had (decode s) n f (D .read) (d ∙ sym q)) refl refl
 
   pub penalty-begun : f .state ≡ 7 → h ≡ penaltyPassed (freeOf (decode s .accounts) (f .seller)) → g ≡ recordOf (withLot f Idle)
       → Begun s s₁ (entryOf n 15 (f .seller) (f .buyer) (penaltyPassed (freeOf (decode s .accounts) (f .seller)) .0)) (withLot f Idle)
       (from (f .buyer) (fen 0)) h (from 0 (fen 0))
   unfolding moneyOf recordOf held
   penalty-begun e q i =
-      begun (can-post c n s (D .at) (through D) (pays-penalty D e)) i p (ap holdOf (sym (D .read)) ∙ holds-nothing f 7 e refl) (sym q) refl
+      let d : held f ≡ fen 0 = rw e in
+      begun (can-post c n s (D .at) (through D) (pays-penalty D e)) i p (had (decode s) n f (D .read) d) (sym q) refl
 
 -- ── The day close ──────────────────────────────────────────────────────────────────────────────
 
@@ -300,10 +291,13 @@ module _ (c : Call) (n : ℕ) (s : List ℕ) {f : Record} (k : c .kind ≡ 15) (
     pub listed-begun : f .state ≡ 1
         → Begun s s₁ (entryOf n 3 (f .seller) (f .buyer) 0) (withLot f Idle) (from (f .buyer) (fen 0)) (fen 0) (from 0 (fen 0))
     unfolding moneyOf recordOf held
-    listed-begun e = begun (can-post c n s at (rw k) (ends 1 e refl)) i p (ap holdOf (sym r) ∙ holds-nothing f 1 e refl) refl refl
+    listed-begun e =
+        let d : held f ≡ fen 0 = rw e in
+        begun (can-post c n s at (rw k) (ends 1 e refl)) i p (had (decode s) n f r d) refl refl
 
     pub bid-begun : {h : Fen} → f .state ≡ 2 → h ≡ deposit
         → Begun s s₁ (entryOf n 3 (f .seller) (f .buyer) 0) (withLot f Idle) (from (f .buyer) h) (fen 0) (from 0 (fen 0))
     unfolding moneyOf recordOf held
     bid-begun e q =
-        begun (can-post c n s at (rw k) (ends 2 e refl)) i p (ap holdOf (sym r) ∙ holds-deposit f 2 e refl ∙ (λ i. from (f .buyer) (sym q i))) refl refl
+        let d : held f ≡ deposit = rw e in
+        begun (can-post c n s at (rw k) (ends 2 e refl)) i p (had (decode s) n f r (d ∙ sym q)) refl refl

@@ -8,8 +8,8 @@ use borrow.Author.Tests.{not-true, not-false}
 use denote.Ref.{now}
 use Rattle.image.specs.Image.{validImage, decode}
 use Rattle.rules.specs.Laws.Steps.{accepted-as}
-use Rattle.answers.specs.Buffers.{padded}
-use Rattle.answers.specs.Laws.Answer.{cleared-under}
+use Rattle.answers.specs.Buffers.{padded, cleared}
+use Rattle.answers.specs.Laws.Answer.{cleared-twice, cleared-under}
 use Rattle.crz.specs.Laws.Numbers.{refused-by}
 use Rattle.crz.specs.Laws.Returned.{short-with, image-with, call-with, refusal-short, refusal-written, refused-with, done-with}
 use borrow.Author.Needs.{needs}
@@ -19,9 +19,13 @@ use Rattle.crz.proofs.make_call.Tie as tie
 valid : (c : tie.Else2) → validImage (now (c .before .before .before .before .before .before .before .before .args .image)) ≡ true
 valid c = sym (c .before .before .before .before .before .before .before .before .pre) ∙ not-false _ (c .if2 .left)
 
+-- a cleared answer stays so when it is cleared again
+blank : (c : tie.After-clear) → cleared (c .clear .last .0) ≡ c .clear .last .0
+blank c = ap cleared (c .clear .ensures) ∙ cleared-twice (now (c .before .before .before .before .before .args .answer)) (c .before .before .if1 .left) ∙ sym (c .clear .ensures)
+
 -- what is written over the cleared answer is written over the answer
 over : (c : tie.After-clear) (bytes : List ℕ) → padded bytes (c .clear .last .0) ≡ padded bytes (now (c .before .before .before .before .before .args .answer))
-over c bytes = ap (padded bytes) (c .clear .ensures .0) ∙ cleared-under (now (c .before .before .before .before .before .args .answer)) (c .before .before .if1 .left) bytes
+over c bytes = ap (padded bytes) (c .clear .ensures) ∙ cleared-under (now (c .before .before .before .before .before .args .answer)) (c .before .before .if1 .left) bytes
 
 cast-result : tie.Need-cast-result
 cast-result c = search needs
@@ -35,7 +39,7 @@ clear-requires : tie.Need-clear-requires
 clear-requires c κs = search needs
 
 refuse-requires : tie.Need-refuse-requires
-refuse-requires c κs = (search needs, c .before .before .before .before .clear .ensures .1)
+refuse-requires c κs = (search needs, blank (c .before .before .before .before))
 
 same-length : tie.Need-same-length
 same-length c = search needs
@@ -55,13 +59,13 @@ enum-known-step : tie.Need-enum-known-step
 enum-known-step c = search needs
 
 refuse-requires-2 : tie.Need-refuse-requires-2
-refuse-requires-2 c κs = (search needs, c .before .before .before .before .before .before .before .before .before .clear .ensures .1)
+refuse-requires-2 c κs = (search needs, blank (c .before .before .before .before .before .before .before .before .before))
 
 enum-known-step-2 : tie.Need-enum-known-step-2
 enum-known-step-2 c = search needs
 
 carry-out-requires : tie.Need-carry-out-requires
-carry-out-requires c κs = (search needs, c .before .before .before .before .before .before .before .before .before .before .clear .ensures .1, valid (c .before .before .before .before .before .before .before), sym (c .before .before .before .before .before .step-of .ensures) ∙ c .before .before .before .step2 .given .1)
+carry-out-requires c κs = (search needs, blank (c .before .before .before .before .before .before .before .before .before .before), valid (c .before .before .before .before .before .before .before), sym (c .before .before .before .before .before .step-of .ensures) ∙ c .before .before .before .step2 .given .1)
 
 same-length-2 : tie.Need-same-length-2
 same-length-2 c = search needs

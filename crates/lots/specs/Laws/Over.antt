@@ -1,17 +1,16 @@
 -- At a lot that the call does not concern its rule has no event.
 -- Assumes nothing.
-use mathlib.Core.Bool.{Bool, true, false, cond, _&&_}
-use mathlib.Core.List.{[], _∷_}
-use mathlib.Core.Path.{_≡_, refl}
+use mathlib.Core.Bool.{true, false}
+use mathlib.Core.Path.{_≡_}
 use Prim.Native.Nat.{ℕ}
-use lib.Dec.{leb}
 use Rattle.zone.specs.declared.Record.{Record}
 use Rattle.rules.specs.declared.AtLot.the-variants.{NoEvent}
 use Rattle.rules.specs.declared.Call.{Call}
 use Rattle.rules.specs.declared.View.{View}
-use Rattle.rules.specs.Effects.{ruleOf, sweeps, quoteLot, closeLot, dayCloseLot, sweepKinds}
+use Rattle.rules.specs.Effects.{ruleOf, sweeps, quoteLot, dayCloseLot, sweepKinds}
 use Rattle.rules.specs.Laws.Kinds.{withKind}
-use Rattle.rules.specs.Laws.Tables.{among-each, among-none}
+use Rattle.rules.specs.Laws.Tables.{among-each}
+use Rattle.rules.specs.Laws.Trades.{close-none}
 use Rattle.lots.specs.Concerned.{concerned}
 
 module _ (v : View) (c : Call) (n : ℕ) (f : Record) where
@@ -23,14 +22,8 @@ module _ (v : View) (c : Call) (n : ℕ) (f : Record) where
   quote h = rw h
 
   morning : Over 11
-  unfolding Over concerned ruleOf closeLot
-  morning h =
-      let none = among-none (f .state) (3 ∷ 4 ∷ 7 ∷ []) h in
-      rw (none .1 .0, none .0, none .1 .1 .0) (neither (leb (f .due) (v .day)))
-    where
-      neither : (b : Bool) → cond b NoEvent NoEvent ≡ NoEvent
-      neither true = refl
-      neither false = refl
+  unfolding Over concerned ruleOf
+  morning h = close-none v n f h
 
   day : Over 15
   unfolding Over concerned ruleOf dayCloseLot

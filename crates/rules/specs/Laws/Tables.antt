@@ -109,6 +109,11 @@ among-none n (k ∷ ks) h = go (eqb n k) refl (λ i. among-none n ks i) h
 
 -- ── A table's test, and tests joined by `|` ────────────────────────────────────────────────────
 
+-- the same either way
+pub cond-same : {A : Type 0} (b : Bool) (x : A) → cond b x x ≡ x
+cond-same true x = refl
+cond-same false x = refl
+
 pub cond-or : (a b : Bool) → cond a true b ≡ a || b
 cond-or true b = refl
 cond-or false b = refl

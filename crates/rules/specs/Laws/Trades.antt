@@ -23,7 +23,8 @@ use Rattle.zone.specs.Record.{recordOf, tradeOf}
 use Rattle.zone.specs.Valid.{recordValid}
 use Rattle.rules.specs.declared.Call.{Call}
 use Rattle.rules.specs.declared.AtLot.{AtLot}
-use Rattle.rules.specs.declared.AtLot.the-variants.{Event}
+use Rattle.rules.specs.declared.AtLot.the-variants.{NoEvent, Event}
+use Rattle.rules.specs.declared.View.{View}
 use Rattle.rules.specs.Effects.{withLot, eventOf, entryOf, hasMoney, lodge, closeLot, payFirst, sendInvoice, confirm, ownedBy}
 use Rattle.rules.specs.Events.{moneyOf}
 use Rattle.rules.specs.Laws.Chain.{event, chosen, only}
@@ -32,10 +33,17 @@ use Rattle.rules.specs.Laws.Kinds.{withKind}
 use Rattle.rules.specs.Laws.Offers.{FitsAt, Tested}
 use Rattle.rules.specs.Laws.Passed.{in-state}
 use Rattle.rules.specs.Laws.Receipts.{Parties, parties, PartPaid, part-paid, partOf, confirmedInvoices, seller-in, buyer-in, differ-in, trade-in, full-in, owned-in, sellers, buyers, held-deposit, held-full, held-own}
-use Rattle.rules.specs.Laws.Tables.{among-one}
+use Rattle.rules.specs.Laws.Tables.{among-one, among-none, cond-same}
 use Rattle.rules.specs.Numbers.{aboveInvoice}
 use Rattle.rules.specs.Tables.{among}
 use Rattle.rules.specs.View.{freeOf, viewOf}
+
+-- of a lot in another state than these three the morning close makes no event, due or not
+pub close-none : (v : View) (n : ℕ) (f : Record) → among (f .state) (3 ∷ 4 ∷ 7 ∷ []) ≡ false → closeLot v n f ≡ NoEvent
+unfolding closeLot
+close-none v n f h =
+    let none = among-none (f .state) (3 ∷ 4 ∷ 7 ∷ []) h in
+    rw (none .1 .0, none .0, none .1 .1 .0) (cond-same (leb (f .due) (v .day)) NoEvent)
 
 -- a lot of state 4 whose buyer has the money
 abbrev closeSettled : ℕ → Record → AtLot

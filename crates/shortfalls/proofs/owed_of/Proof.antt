@@ -1,22 +1,18 @@
 -- Before it is struck, and before it is due, nothing is owed for a lot; then its state decides.
-use mathlib.Core.Bool.{Bool, true, false, cond}
-use mathlib.Core.Path.{_≡_, refl}
+use mathlib.Core.Bool.{false}
+use mathlib.Core.Path.{_≡_}
 use Prim.Native.Nat.{ℕ, _≤_, _<_}
 use native.Mathlib.Omega.{arith}
 use borrow.Author.Tests.{eq-eqb, ne-eqb, le-leb, lt-leb}
 use lib.Dec.{leb}
 use Rattle.units.specs.Ranges.{within}
-use Rattle.zone.specs.declared.Hold.{Hold}
 use Rattle.zone.specs.Laws.Facts.{bounds}
 use Rattle.zone.specs.Laws.Tests.{inside}
+use Rattle.rules.specs.Laws.Tables.{cond-same}
 use Rattle.shortfalls.specs.Walk.{owedOf}
 use borrow.Author.Needs.{needs}
 use Rattle.shortfalls.proofs.owed_of.Statement.{statement}
 use Rattle.shortfalls.proofs.owed_of.Tie as tie
-
-same : (b : Bool) (h : Hold) → cond b h h ≡ h
-same true h = refl
-same false h = refl
 
 -- below or above the states of a trade
 below : (s : ℕ) → s < 3 → within 3 4 s ≡ false
@@ -33,7 +29,7 @@ unfolding owedOf
 returns c =
     let s = c .before .before .args .r .state in
     let early : s < 3 = omega (arith, c .before .if1 .taken) in
-    rw (ne-eqb s 7 (λ e. absurd (omega arith)), below s early, c .no-hold .ensures, same (leb (c .before .before .args .r .due) (c .before .before .args .day)))
+    rw (ne-eqb s 7 (λ e. absurd (omega arith)), below s early, c .no-hold .ensures, cond-same (leb (c .before .before .args .r .due) (c .before .before .args .day)) _)
 
 no-hold-requires-2 : tie.Need-no-hold-requires-2
 no-hold-requires-2 c κs = search needs
