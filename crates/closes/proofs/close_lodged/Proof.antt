@@ -17,7 +17,7 @@ use Rattle.rules.specs.Laws.Funded.{pass-free, hold-free, all-debited}
 use Rattle.rules.specs.View.{viewOf}
 use Rattle.events.specs.Laws.Moved.{Moved, record-kept, next, released, debited, credited}
 use Rattle.events.specs.Laws.Nothing.{debit-nothing, credit-nothing}
-use Rattle.closes.specs.Laws.Closing.{Begun, tells-money, from, settled-begun, buyer-begun, settles, buyer-defaults, worked, ended, held-anew, passed-on, old-in, from-in, to-in, new-in, asked, due-valid, buyer-limit}
+use Rattle.closes.specs.Laws.Closing.{Begun, tells-money, holdFrom, settled-begun, buyer-begun, settles, buyer-defaults, worked, ended, held-anew, passed-on, old-in, from-in, to-in, new-in, asked, due-valid, buyer-limit}
 use borrow.Author.Needs.{needs}
 use Rattle.closes.proofs.close_lodged.Statement.{statement}
 use Rattle.closes.proofs.close_lodged.Tie as tie
@@ -28,7 +28,7 @@ tested c = tells-money (c .before .before .before .before .before .before .pre .
 -- ── With the money ─────────────────────────────────────────────────────────────────────────────
 
 bought : (c : tie.After-receipt-record) →
-    Begun (now (c .before .before .before .before .before .before .before .before .before .before .args .image)) (c .receipt-record .last .0) (entryOf (c .before .before .before .before .before .before .before .before .before .before .args .n) 8 (c .before .before .before .before .before .before .before .before .before .before .args .f .seller) (c .before .before .before .before .before .before .before .before .before .before .args .f .buyer) (full (c .before .before .before .before .before .before .before .before .before .before .args .f) .0)) (ownedBy (c .before .before .before .before .before .before .before .before .before .before .args .f .buyer) (c .before .before .before .before .before .before .before .before .before .before .args .f) (Settled (tradeOf (c .before .before .before .before .before .before .before .before .before .before .args .f)))) (from (c .before .before .before .before .before .before .before .before .before .before .args .f .buyer) (c .before .before .before .before .before .before .before .deposit-per-receipt .result)) (fen 0) (from (c .before .before .before .before .before .before .before .before .before .before .args .f .buyer) (c .before .before .before .before .before .before .before .before .full-of .result))
+    Begun (now (c .before .before .before .before .before .before .before .before .before .before .args .image)) (c .receipt-record .last .0) (entryOf (c .before .before .before .before .before .before .before .before .before .before .args .n) 8 (c .before .before .before .before .before .before .before .before .before .before .args .f .seller) (c .before .before .before .before .before .before .before .before .before .before .args .f .buyer) (full (c .before .before .before .before .before .before .before .before .before .before .args .f) .0)) (ownedBy (c .before .before .before .before .before .before .before .before .before .before .args .f .buyer) (c .before .before .before .before .before .before .before .before .before .before .args .f) (Settled (tradeOf (c .before .before .before .before .before .before .before .before .before .before .args .f)))) (holdFrom (c .before .before .before .before .before .before .before .before .before .before .args .f .buyer) (c .before .before .before .before .before .before .before .deposit-per-receipt .result)) (fen 0) (holdFrom (c .before .before .before .before .before .before .before .before .before .before .args .f .buyer) (c .before .before .before .before .before .before .before .before .full-of .result))
 bought c = settled-begun (c .before .before .before .before .before .before .before .before .before .before .pre .0) (c .receipt-record .ensures) (c .before .before .before .before .before .before .before .before .before .before .pre .1) (sym (tested (c .before .before .before .before)) ∙ c .before .before .before .if1 .taken) (c .before .before .before .before .before .before .before .deposit-per-receipt .ensures) (c .before .before .before .before .before .before .before .before .full-of .ensures) (c .before .settled-record .ensures)
 
 freed : (c : tie.After-release-to) → Moved (c .before .before .before .before .receipt-record .last .0) (c .release-to .last .0) (release (c .before .before .before .before .before .before .before .before .before .before .before .before .before .before .args .f .buyer) (c .before .before .before .before .before .before .before .before .before .before .before .deposit-per-receipt .result) (decode (c .before .before .before .before .receipt-record .last .0) .accounts))
@@ -39,7 +39,7 @@ freed c =
 -- ── Without ────────────────────────────────────────────────────────────────────────────────────
 
 lost : (c : tie.After-receipt-record2) →
-    Begun (now (c .before .before .before .before .before .before .before .before .before .before .args .image)) (c .receipt-record2 .last .0) (entryOf (c .before .before .before .before .before .before .before .before .before .before .args .n) 12 (c .before .before .before .before .before .before .before .before .before .before .args .f .seller) (c .before .before .before .before .before .before .before .before .before .before .args .f .buyer) (deposit .0)) (withLot (c .before .before .before .before .before .before .before .before .before .before .args .f) Idle) (from (c .before .before .before .before .before .before .before .before .before .before .args .f .buyer) (c .before .before .before .before .before .before .before .deposit-per-receipt .result)) (c .before .before .before .before .before .before .before .deposit-per-receipt .result) (from 0 (fen 0))
+    Begun (now (c .before .before .before .before .before .before .before .before .before .before .args .image)) (c .receipt-record2 .last .0) (entryOf (c .before .before .before .before .before .before .before .before .before .before .args .n) 12 (c .before .before .before .before .before .before .before .before .before .before .args .f .seller) (c .before .before .before .before .before .before .before .before .before .before .args .f .buyer) (deposit .0)) (withLot (c .before .before .before .before .before .before .before .before .before .before .args .f) Idle) (holdFrom (c .before .before .before .before .before .before .before .before .before .before .args .f .buyer) (c .before .before .before .before .before .before .before .deposit-per-receipt .result)) (c .before .before .before .before .before .before .before .deposit-per-receipt .result) (holdFrom 0 (fen 0))
 lost c = buyer-begun (c .before .before .before .before .before .before .before .before .before .before .pre .0) (c .receipt-record2 .ensures) (c .before .before .before .before .before .before .before .before .before .before .pre .1) (sym (tested (c .before .before .before .before)) ∙ c .before .before .before .if1 .left) (c .before .before .before .before .before .before .before .deposit-per-receipt .ensures) (c .before .idle-record .ensures)
 
 freed-2 : (c : tie.After-release-to2) → Moved (c .before .before .before .before .receipt-record2 .last .0) (c .release-to2 .last .0) (release (c .before .before .before .before .before .before .before .before .before .before .before .before .before .before .args .f .buyer) (c .before .before .before .before .before .before .before .before .before .before .before .deposit-per-receipt .result) (decode (c .before .before .before .before .receipt-record2 .last .0) .accounts))
@@ -109,7 +109,7 @@ returns c =
     let whole = c .before .before .before .before .before .before .before .before .before .before .before .before .before .before .before .before .before .before .before .before .full-of .result in
     worked (a .c) (a .n) (now (a .image)) (settles (c .before .before .before .before .before .before .before .before .before .before .before .before .before .before .before .before .before .before .before .before .before .before .pre .0) (c .before .before .before .before .before .before .before .before .before .before .before .before .before .before .before .before .before .before .before .before .before .before .pre .1) h)
     (ended (bought (c .before .before .before .before .before .before .before .before .before .before .before .before)) (λ l. freeze (a .f .buyer) whole (release (a .f .buyer) held l))
-    (held-anew (from (a .f .buyer) held) (a .f .buyer) (a .f .seller) (from (a .f .buyer) whole))
+    (held-anew (holdFrom (a .f .buyer) held) (a .f .buyer) (a .f .seller) (holdFrom (a .f .buyer) whole))
     (next (freeze (a .f .buyer) whole) (freed (c .before .before .before .before .before .before .before .before)) (c .before .before .before .before .freeze-from .ensures)))
     (c .by-buyer .ensures ∙ ap (λ (x : Fen). entryOf (a .n) 8 (a .f .seller) (a .f .buyer) (x .0)) (c .before .before .before .before .before .before .before .before .before .before .before .before .before .before .before .before .before .before .before .before .full-of .ensures))
 
@@ -153,7 +153,7 @@ returns-2 c =
     let held = c .before .before .before .before .before .before .before .before .before .before .before .before .before .before .before .before .before .before .before .before .before .before .deposit-per-receipt .result in
     worked (a .c) (a .n) (now (a .image)) (buyer-defaults (c .before .before .before .before .before .before .before .before .before .before .before .before .before .before .before .before .before .before .before .before .before .before .before .before .before .pre .0) (c .before .before .before .before .before .before .before .before .before .before .before .before .before .before .before .before .before .before .before .before .before .before .before .before .before .pre .1) h)
     (ended B (λ l. credit (a .f .seller) held (debit (a .f .buyer) held (release (a .f .buyer) held l)))
-    (passed-on (from (a .f .buyer) held) (a .f .buyer) (a .f .seller) held 0)
+    (passed-on (holdFrom (a .f .buyer) held) (a .f .buyer) (a .f .seller) held 0)
     (credited _ (B .fits) (B .funds) (taken (c .before .before .before .before .before .before .before)) (c .before .before .before .credit-to .ensures) .is))
     (c .by-buyer2 .ensures)
 

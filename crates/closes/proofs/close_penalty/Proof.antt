@@ -15,7 +15,7 @@ use Rattle.rules.specs.Laws.Funded.{pass-free, all-debited}
 use Rattle.rules.specs.View.{freeOf}
 use Rattle.events.specs.Laws.Moved.{Moved, record-kept, debited, credited}
 use Rattle.events.specs.Laws.Nothing.{release-nothing}
-use Rattle.closes.specs.Laws.Closing.{Begun, from, penalty-begun, pays-penalty, worked, ended, passed-on, from-in, to-in, nothing-freed, asked}
+use Rattle.closes.specs.Laws.Closing.{Begun, holdFrom, penalty-begun, pays-penalty, worked, ended, passed-on, from-in, to-in, nothing-freed, asked}
 use borrow.Author.Needs.{needs}
 use Rattle.closes.proofs.close_penalty.Statement.{statement}
 use Rattle.closes.proofs.close_penalty.Tie as tie
@@ -25,7 +25,7 @@ pass : (c : tie.After-penalty-passed) → c .penalty-passed .result ≡ penaltyP
 pass c = c .penalty-passed .ensures ∙ ap penaltyPassed (c .before .free-of .ensures)
 
 begun : (c : tie.After-receipt-record) →
-    Begun (now (c .before .before .before .before .before .before .before .args .image)) (c .receipt-record .last .0) (entryOf (c .before .before .before .before .before .before .before .args .n) 15 (c .before .before .before .before .before .before .before .args .f .seller) (c .before .before .before .before .before .before .before .args .f .buyer) (penaltyPassed (freeOf (decode (now (c .before .before .before .before .before .before .before .args .image)) .accounts) (c .before .before .before .before .before .before .before .args .f .seller)) .0)) (withLot (c .before .before .before .before .before .before .before .args .f) Idle) (from (c .before .before .before .before .before .before .before .args .f .buyer) (fen 0)) (c .before .before .before .penalty-passed .result) (from 0 (fen 0))
+    Begun (now (c .before .before .before .before .before .before .before .args .image)) (c .receipt-record .last .0) (entryOf (c .before .before .before .before .before .before .before .args .n) 15 (c .before .before .before .before .before .before .before .args .f .seller) (c .before .before .before .before .before .before .before .args .f .buyer) (penaltyPassed (freeOf (decode (now (c .before .before .before .before .before .before .before .args .image)) .accounts) (c .before .before .before .before .before .before .before .args .f .seller)) .0)) (withLot (c .before .before .before .before .before .before .before .args .f) Idle) (holdFrom (c .before .before .before .before .before .before .before .args .f .buyer) (fen 0)) (c .before .before .before .penalty-passed .result) (holdFrom 0 (fen 0))
 begun c = penalty-begun (c .before .before .before .before .before .before .before .pre .0) (c .receipt-record .ensures) (c .before .before .before .before .before .before .before .pre .1) (pass (c .before .before .before)) (c .before .idle-record .ensures)
 
 taken : (c : tie.After-debit-from) →
@@ -80,7 +80,7 @@ returns c =
     let M = credited _ (B .fits) (B .funds) (taken (c .before .before .before .before .before .before .before .before)) (c .before .before .before .before .credit-to .ensures) in
     worked (c .before .before .before .before .before .before .before .before .before .before .before .before .before .before .before .before .before .before .before .args .c) (c .before .before .before .before .before .before .before .before .before .before .before .before .before .before .before .before .before .before .before .args .n) (now (c .before .before .before .before .before .before .before .before .before .before .before .before .before .before .before .before .before .before .before .args .image)) (pays-penalty (c .before .before .before .before .before .before .before .before .before .before .before .before .before .before .before .before .before .before .before .pre .0) (c .before .before .before .before .before .before .before .before .before .before .before .before .before .before .before .before .before .before .before .pre .1))
     (ended B (λ l. credit (c .before .before .before .before .before .before .before .before .before .before .before .before .before .before .before .before .before .before .before .args .f .buyer) (c .before .before .before .before .before .before .before .before .before .before .before .before .before .before .before .penalty-passed .result) (debit (c .before .before .before .before .before .before .before .before .before .before .before .before .before .before .before .before .before .before .before .args .f .seller) (c .before .before .before .before .before .before .before .before .before .before .before .before .before .before .before .penalty-passed .result) (release (c .before .before .before .before .before .before .before .before .before .before .before .before .before .before .before .before .before .before .before .args .f .buyer) (fen 0) l)))
-    (passed-on (from (c .before .before .before .before .before .before .before .before .before .before .before .before .before .before .before .before .before .before .before .args .f .buyer) (fen 0)) (c .before .before .before .before .before .before .before .before .before .before .before .before .before .before .before .before .before .before .before .args .f .seller) (c .before .before .before .before .before .before .before .before .before .before .before .before .before .before .before .before .before .before .before .args .f .buyer) (c .before .before .before .before .before .before .before .before .before .before .before .before .before .before .before .penalty-passed .result) 0) (M .is))
+    (passed-on (holdFrom (c .before .before .before .before .before .before .before .before .before .before .before .before .before .before .before .before .before .before .before .args .f .buyer) (fen 0)) (c .before .before .before .before .before .before .before .before .before .before .before .before .before .before .before .before .before .before .before .args .f .seller) (c .before .before .before .before .before .before .before .before .before .before .before .before .before .before .before .before .before .before .before .args .f .buyer) (c .before .before .before .before .before .before .before .before .before .before .before .before .before .before .before .penalty-passed .result) 0) (M .is))
     (c .by-seller .ensures ∙ ap (λ (x : Fen). entryOf (c .before .before .before .before .before .before .before .before .before .before .before .before .before .before .before .before .before .before .before .args .n) 15 (c .before .before .before .before .before .before .before .before .before .before .before .before .before .before .before .before .before .before .before .args .f .seller) (c .before .before .before .before .before .before .before .before .before .before .before .before .before .before .before .before .before .before .before .args .f .buyer) (x .0)) (pass (c .before .before .before .before .before .before .before .before .before .before .before .before .before .before .before)))
 
 pub close-penalty-spec : {M : Type 1} → statement M

@@ -13,7 +13,7 @@ use Rattle.rules.specs.Effects.{entryOf, withLot, hasMoney}
 use Rattle.rules.specs.Events.{release}
 use Rattle.rules.specs.View.{viewOf}
 use Rattle.events.specs.Laws.Moved.{record-kept}
-use Rattle.closes.specs.Laws.Closing.{Begun, tells-money, from, seller-begun, both-begun, seller-defaults, both-default, worked, ended, only-released, old-in, due-valid, buyer-limit}
+use Rattle.closes.specs.Laws.Closing.{Begun, tells-money, holdFrom, seller-begun, both-begun, seller-defaults, both-default, worked, ended, only-released, old-in, due-valid, buyer-limit}
 use borrow.Author.Needs.{needs}
 use Rattle.closes.proofs.close_struck.Statement.{statement}
 use Rattle.closes.proofs.close_struck.Tie as tie
@@ -26,13 +26,13 @@ tested : (c : tie.After-has-money) → c .has-money .result ≡ hasMoney (viewOf
 tested c = tells-money (c .before .before .before .before .before .before .before .before .pre .0) (c .has-money .ensures) (c .before .full-of .ensures) (c .before .before .free-of .ensures)
 
 owing : (c : tie.After-receipt-record) →
-    Begun (now (c .before .before .before .before .before .before .before .before .before .before .before .before .args .image)) (c .receipt-record .last .0) (entryOf (c .before .before .before .before .before .before .before .before .before .before .before .before .args .n) 13 (c .before .before .before .before .before .before .before .before .before .before .before .before .args .f .seller) (c .before .before .before .before .before .before .before .before .before .before .before .before .args .f .buyer) 0) (withLot (c .before .before .before .before .before .before .before .before .before .before .before .before .args .f) (PenaltyDue (c .before .before .before .before .before .before .before .before .before .before .before .before .args .f .seller) (c .before .before .before .before .before .before .before .before .before .before .before .before .args .f .buyer) (decode (now (c .before .before .before .before .before .before .before .before .before .before .before .before .args .image)) .day + 1))) (from (c .before .before .before .before .before .before .before .before .before .before .before .before .args .f .buyer) (c .before .before .before .before .before .before .before .before .deposit-per-receipt .result)) (fen 0) (from (c .before .before .before .before .before .before .before .before .before .before .before .before .args .f .buyer) (fen 0))
+    Begun (now (c .before .before .before .before .before .before .before .before .before .before .before .before .args .image)) (c .receipt-record .last .0) (entryOf (c .before .before .before .before .before .before .before .before .before .before .before .before .args .n) 13 (c .before .before .before .before .before .before .before .before .before .before .before .before .args .f .seller) (c .before .before .before .before .before .before .before .before .before .before .before .before .args .f .buyer) 0) (withLot (c .before .before .before .before .before .before .before .before .before .before .before .before .args .f) (PenaltyDue (c .before .before .before .before .before .before .before .before .before .before .before .before .args .f .seller) (c .before .before .before .before .before .before .before .before .before .before .before .before .args .f .buyer) (decode (now (c .before .before .before .before .before .before .before .before .before .before .before .before .args .image)) .day + 1))) (holdFrom (c .before .before .before .before .before .before .before .before .before .before .before .before .args .f .buyer) (c .before .before .before .before .before .before .before .before .deposit-per-receipt .result)) (fen 0) (holdFrom (c .before .before .before .before .before .before .before .before .before .before .before .before .args .f .buyer) (fen 0))
 owing c =
     seller-begun (c .before .before .before .before .before .before .before .before .before .before .before .before .pre .0) (c .receipt-record .ensures) (c .before .before .before .before .before .before .before .before .before .before .before .before .pre .1) (sym (tested (c .before .before .before .before)) ∙ c .before .before .before .if1 .taken) (c .before .before .before .before .before .before .before .before .deposit-per-receipt .ensures)
     (c .before .penalty-record .ensures ∙ ap (λ (d : ℕ). recordOf (withLot (c .before .before .before .before .before .before .before .before .before .before .before .before .args .f) (PenaltyDue (c .before .before .before .before .before .before .before .before .before .before .before .before .args .f .seller) (c .before .before .before .before .before .before .before .before .before .before .before .before .args .f .buyer) (d + 1)))) (today (c .before .before .before .before .before .before .before .before .before)))
 
 over : (c : tie.After-receipt-record2) →
-    Begun (now (c .before .before .before .before .before .before .before .before .before .before .before .before .args .image)) (c .receipt-record2 .last .0) (entryOf (c .before .before .before .before .before .before .before .before .before .before .before .before .args .n) 14 (c .before .before .before .before .before .before .before .before .before .before .before .before .args .f .seller) (c .before .before .before .before .before .before .before .before .before .before .before .before .args .f .buyer) 0) (withLot (c .before .before .before .before .before .before .before .before .before .before .before .before .args .f) Idle) (from (c .before .before .before .before .before .before .before .before .before .before .before .before .args .f .buyer) (c .before .before .before .before .before .before .before .before .deposit-per-receipt .result)) (fen 0) (from 0 (fen 0))
+    Begun (now (c .before .before .before .before .before .before .before .before .before .before .before .before .args .image)) (c .receipt-record2 .last .0) (entryOf (c .before .before .before .before .before .before .before .before .before .before .before .before .args .n) 14 (c .before .before .before .before .before .before .before .before .before .before .before .before .args .f .seller) (c .before .before .before .before .before .before .before .before .before .before .before .before .args .f .buyer) 0) (withLot (c .before .before .before .before .before .before .before .before .before .before .before .before .args .f) Idle) (holdFrom (c .before .before .before .before .before .before .before .before .before .before .before .before .args .f .buyer) (c .before .before .before .before .before .before .before .before .deposit-per-receipt .result)) (fen 0) (holdFrom 0 (fen 0))
 over c = both-begun (c .before .before .before .before .before .before .before .before .before .before .before .before .pre .0) (c .receipt-record2 .ensures) (c .before .before .before .before .before .before .before .before .before .before .before .before .pre .1) (sym (tested (c .before .before .before .before)) ∙ c .before .before .before .if1 .left) (c .before .before .before .before .before .before .before .before .deposit-per-receipt .ensures) (c .before .idle-record .ensures)
 
 sub-k : tie.Need-sub-k
@@ -81,7 +81,7 @@ returns c =
     let h = sym (tested (c .before .before .before .before .before .before .before .before .before .before .before)) ∙ c .before .before .before .before .before .before .before .before .before .before .if1 .taken in
     let a = c .before .before .before .before .before .before .before .before .before .before .before .before .before .before .before .before .before .before .before .args in
     worked (a .c) (a .n) (now (a .image)) (seller-defaults (c .before .before .before .before .before .before .before .before .before .before .before .before .before .before .before .before .before .before .before .pre .0) (c .before .before .before .before .before .before .before .before .before .before .before .before .before .before .before .before .before .before .before .pre .1) h)
-    (ended (owing (c .before .before .before .before .before .before .before)) (release (a .f .buyer) (c .before .before .before .before .before .before .before .before .before .before .before .before .before .before .before .deposit-per-receipt .result)) (only-released (from (a .f .buyer) (c .before .before .before .before .before .before .before .before .before .before .before .before .before .before .before .deposit-per-receipt .result)) (a .f .seller) (a .f .buyer) (a .f .buyer)) (c .before .before .before .release-to .ensures))
+    (ended (owing (c .before .before .before .before .before .before .before)) (release (a .f .buyer) (c .before .before .before .before .before .before .before .before .before .before .before .before .before .before .before .deposit-per-receipt .result)) (only-released (holdFrom (a .f .buyer) (c .before .before .before .before .before .before .before .before .before .before .before .before .before .before .before .deposit-per-receipt .result)) (a .f .seller) (a .f .buyer) (a .f .buyer)) (c .before .before .before .release-to .ensures))
     (c .by-seller .ensures)
 
 idle-record-requires : tie.Need-idle-record-requires
@@ -106,7 +106,7 @@ returns-2 c =
     let h = sym (tested (c .before .before .before .before .before .before .before .before .before .before .before)) ∙ c .before .before .before .before .before .before .before .before .before .before .if1 .left in
     let a = c .before .before .before .before .before .before .before .before .before .before .before .before .before .before .before .before .before .before .before .args in
     worked (a .c) (a .n) (now (a .image)) (both-default (c .before .before .before .before .before .before .before .before .before .before .before .before .before .before .before .before .before .before .before .pre .0) (c .before .before .before .before .before .before .before .before .before .before .before .before .before .before .before .before .before .before .before .pre .1) h)
-    (ended (over (c .before .before .before .before .before .before .before)) (release (a .f .buyer) (c .before .before .before .before .before .before .before .before .before .before .before .before .before .before .before .deposit-per-receipt .result)) (only-released (from (a .f .buyer) (c .before .before .before .before .before .before .before .before .before .before .before .before .before .before .before .deposit-per-receipt .result)) (a .f .buyer) (a .f .seller) 0) (c .before .before .before .release-to2 .ensures))
+    (ended (over (c .before .before .before .before .before .before .before)) (release (a .f .buyer) (c .before .before .before .before .before .before .before .before .before .before .before .before .before .before .before .deposit-per-receipt .result)) (only-released (holdFrom (a .f .buyer) (c .before .before .before .before .before .before .before .before .before .before .before .before .before .before .before .deposit-per-receipt .result)) (a .f .buyer) (a .f .seller) 0) (c .before .before .before .release-to2 .ensures))
     (c .by-buyer .ensures)
 
 pub close-struck-spec : {M : Type 1} → statement M

@@ -11,7 +11,7 @@ use Rattle.rules.specs.Events.{release}
 use Rattle.rules.specs.View.{recordOfReceipt}
 use Rattle.events.specs.Laws.Moved.{record-in-place, record-kept}
 use Rattle.events.specs.Laws.Nothing.{release-nothing}
-use Rattle.closes.specs.Laws.Closing.{Begun, from, listed-begun, bid-begun, ends, no-offer, idle-worked, worked, ended, only-released, old-in}
+use Rattle.closes.specs.Laws.Closing.{Begun, holdFrom, listed-begun, bid-begun, ends, no-offer, idle-worked, worked, ended, only-released, old-in}
 use borrow.Author.Needs.{needs}
 use Rattle.closes.proofs.end_offer.Statement.{statement}
 use Rattle.closes.proofs.end_offer.Tie as tie
@@ -20,11 +20,11 @@ read : (c : tie.After-record-at) → c .record-at .result ≡ recordOfReceipt (d
 read c = c .record-at .ensures ∙ record-in-place _ (c .before .before .before .pre .0 .encoded) (valid-fits _ (c .before .before .before .pre .0 .valid)) (c .before .before .before .args .n) (c .before .before .before .pre .0 .low) (c .before .before .before .pre .0 .high)
 
 listed : (c : tie.After-receipt-record) →
-    Begun (now (c .before .before .before .before .before .before .before .before .args .image)) (c .receipt-record .last .0) (entryOf (c .before .before .before .before .before .before .before .before .args .n) 3 (c .before .before .before .before .before .record-at .result .seller) (c .before .before .before .before .before .record-at .result .buyer) 0) (withLot (c .before .before .before .before .before .record-at .result) Idle) (from (c .before .before .before .before .before .record-at .result .buyer) (fen 0)) (fen 0) (from 0 (fen 0))
+    Begun (now (c .before .before .before .before .before .before .before .before .args .image)) (c .receipt-record .last .0) (entryOf (c .before .before .before .before .before .before .before .before .args .n) 3 (c .before .before .before .before .before .record-at .result .seller) (c .before .before .before .before .before .record-at .result .buyer) 0) (withLot (c .before .before .before .before .before .record-at .result) Idle) (holdFrom (c .before .before .before .before .before .record-at .result .buyer) (fen 0)) (fen 0) (holdFrom 0 (fen 0))
 listed c = listed-begun (c .before .before .before .before .before .before .before .before .args .c) (c .before .before .before .before .before .before .before .before .args .n) (now (c .before .before .before .before .before .before .before .before .args .image)) (c .before .before .before .before .before .before .before .before .pre .1) (read (c .before .before .before .before .before)) (c .before .before .before .before .before .before .before .before .pre .0) (c .receipt-record .ensures) (c .before .idle-record .ensures) (c .before .before .before .match .keys1)
 
 bid : (c : tie.After-deposit-per-receipt) →
-    Begun (now (c .before .before .before .before .before .before .before .before .before .before .before .before .args .image)) (c .before .before .before .before .receipt-record2 .last .0) (entryOf (c .before .before .before .before .before .before .before .before .before .before .before .before .args .n) 3 (c .before .before .before .before .before .before .before .before .before .record-at .result .seller) (c .before .before .before .before .before .before .before .before .before .record-at .result .buyer) 0) (withLot (c .before .before .before .before .before .before .before .before .before .record-at .result) Idle) (from (c .before .before .before .before .before .before .before .before .before .record-at .result .buyer) (c .deposit-per-receipt .result)) (fen 0) (from 0 (fen 0))
+    Begun (now (c .before .before .before .before .before .before .before .before .before .before .before .before .args .image)) (c .before .before .before .before .receipt-record2 .last .0) (entryOf (c .before .before .before .before .before .before .before .before .before .before .before .before .args .n) 3 (c .before .before .before .before .before .before .before .before .before .record-at .result .seller) (c .before .before .before .before .before .before .before .before .before .record-at .result .buyer) 0) (withLot (c .before .before .before .before .before .before .before .before .before .record-at .result) Idle) (holdFrom (c .before .before .before .before .before .before .before .before .before .record-at .result .buyer) (c .deposit-per-receipt .result)) (fen 0) (holdFrom 0 (fen 0))
 bid c = bid-begun (c .before .before .before .before .before .before .before .before .before .before .before .before .args .c) (c .before .before .before .before .before .before .before .before .before .before .before .before .args .n) (now (c .before .before .before .before .before .before .before .before .before .before .before .before .args .image)) (c .before .before .before .before .before .before .before .before .before .before .before .before .pre .1) (read (c .before .before .before .before .before .before .before .before .before)) (c .before .before .before .before .before .before .before .before .before .before .before .before .pre .0) (c .before .before .before .before .receipt-record2 .ensures) (c .before .before .before .before .before .idle-record2 .ensures) (c .before .before .before .before .before .before .before .match .keys2) (c .deposit-per-receipt .ensures)
 
 sub-k : tie.Need-sub-k
@@ -67,7 +67,7 @@ returns c =
     let B = listed (c .before .before) in
     let f = c .before .before .before .before .before .before .before .record-at .result in
     worked (c .before .before .before .before .before .before .before .before .before .before .args .c) (c .before .before .before .before .before .before .before .before .before .before .args .n) (now (c .before .before .before .before .before .before .before .before .before .before .args .image)) (ends (c .before .before .before .before .before .before .before .before .before .before .args .c) (c .before .before .before .before .before .before .before .before .before .before .args .n) (now (c .before .before .before .before .before .before .before .before .before .before .args .image)) (c .before .before .before .before .before .before .before .before .before .before .pre .1) (read (c .before .before .before .before .before .before .before)) 1 (c .before .before .before .before .before .match .keys1) refl)
-    (ended B (λ l. l) (λ l. only-released (from (f .buyer) (fen 0)) (f .seller) 0 0 l ∙ release-nothing (f .buyer) l) (B .encoded))
+    (ended B (λ l. l) (λ l. only-released (holdFrom (f .buyer) (fen 0)) (f .seller) 0 0 l ∙ release-nothing (f .buyer) l) (B .encoded))
     (c .before .before .before .before .before .before .by-owner .ensures)
 
 same-length-2 : tie.Need-same-length-2
@@ -77,7 +77,7 @@ returns-2 : tie.Need-returns-2
 returns-2 c =
     let f = c .before .before .before .before .before .before .before .before .before .before .before .before .record-at .result in
     worked (c .before .before .before .before .before .before .before .before .before .before .before .before .before .before .before .args .c) (c .before .before .before .before .before .before .before .before .before .before .before .before .before .before .before .args .n) (now (c .before .before .before .before .before .before .before .before .before .before .before .before .before .before .before .args .image)) (ends (c .before .before .before .before .before .before .before .before .before .before .before .before .before .before .before .args .c) (c .before .before .before .before .before .before .before .before .before .before .before .before .before .before .before .args .n) (now (c .before .before .before .before .before .before .before .before .before .before .before .before .before .before .before .args .image)) (c .before .before .before .before .before .before .before .before .before .before .before .before .before .before .before .pre .1) (read (c .before .before .before .before .before .before .before .before .before .before .before .before)) 2 (c .before .before .before .before .before .before .before .before .before .before .match .keys2) refl)
-    (ended (bid (c .before .before .before)) (release (f .buyer) (c .before .before .before .deposit-per-receipt .result)) (only-released (from (f .buyer) (c .before .before .before .deposit-per-receipt .result)) (f .seller) 0 0) (c .before .before .release-to .ensures))
+    (ended (bid (c .before .before .before)) (release (f .buyer) (c .before .before .before .deposit-per-receipt .result)) (only-released (holdFrom (f .buyer) (c .before .before .before .deposit-per-receipt .result)) (f .seller) 0 0) (c .before .before .release-to .ensures))
     (c .before .before .before .before .before .before .before .before .before .before .before .by-owner .ensures)
 
 same-length-3 : tie.Need-same-length-3

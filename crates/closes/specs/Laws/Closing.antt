@@ -213,12 +213,12 @@ passed-on old from to k a l = freeze-nothing a (credit to k (debit from k (relea
 -- ── What a lot holds ───────────────────────────────────────────────────────────────────────────
 
 -- h fen from account a
-abbrev pub from : ℕ → Fen → Hold
-from a h = record { from = a; fen = h }
+abbrev pub holdFrom : ℕ → Fen → Hold
+holdFrom a h = record { from = a; fen = h }
 
 -- the hold of the record that was read, by its amount
-had : (z : Zone) (n : ℕ) (f : Record) {h : Fen} → f ≡ recordOfReceipt z n → held f ≡ h → holdOf (recordOfReceipt z n) ≡ from (f .buyer) h
-had z n f r e = ap holdOf (sym r) ∙ (λ i. from (f .buyer) (e i))
+had : (z : Zone) (n : ℕ) (f : Record) {h : Fen} → f ≡ recordOfReceipt z n → held f ≡ h → holdOf (recordOfReceipt z n) ≡ holdFrom (f .buyer) h
+had z n f r e = ap holdOf (sym r) ∙ (λ i. holdFrom (f .buyer) (e i))
 
 -- ── The five events of a morning close, begun ──────────────────────────────────────────────────
 
@@ -233,14 +233,14 @@ through D = rw (D .kind)
 module _ {c : Call} {n : ℕ} {s : List ℕ} {f : Record} (D : Due c n s f) {g : Record} {s₁ : List ℕ} (p : RecordPut n s g s₁) {h : Fen} where
   pub settled-begun : {w : Fen} → f .state ≡ 4 → hasMoney (viewOf (decode s) (c .account) f) f ≡ true → h ≡ deposit → w ≡ full f
       → g ≡ recordOf (ownedBy (f .buyer) f (Settled (tradeOf f)))
-      → Begun s s₁ (entryOf n 8 (f .seller) (f .buyer) (full f .0)) (ownedBy (f .buyer) f (Settled (tradeOf f))) (from (f .buyer) h) (fen 0) (from (f .buyer) w)
+      → Begun s s₁ (entryOf n 8 (f .seller) (f .buyer) (full f .0)) (ownedBy (f .buyer) f (Settled (tradeOf f))) (holdFrom (f .buyer) h) (fen 0) (holdFrom (f .buyer) w)
   unfolding moneyOf recordOf held full
   settled-begun e m q u i =
       let d : held f ≡ deposit = rw e in
-      begun (can-post c n s (D .at) (through D) (settles D e m)) i p (had (decode s) n f (D .read) (d ∙ sym q)) refl (λ i. from (f .buyer) (sym u i))
+      begun (can-post c n s (D .at) (through D) (settles D e m)) i p (had (decode s) n f (D .read) (d ∙ sym q)) refl (λ i. holdFrom (f .buyer) (sym u i))
 
   pub buyer-begun : f .state ≡ 4 → hasMoney (viewOf (decode s) (c .account) f) f ≡ false → h ≡ deposit → g ≡ recordOf (withLot f Idle)
-      → Begun s s₁ (entryOf n 12 (f .seller) (f .buyer) (deposit .0)) (withLot f Idle) (from (f .buyer) h) h (from 0 (fen 0))
+      → Begun s s₁ (entryOf n 12 (f .seller) (f .buyer) (deposit .0)) (withLot f Idle) (holdFrom (f .buyer) h) h (holdFrom 0 (fen 0))
   unfolding moneyOf recordOf held
   buyer-begun e m q i =
       let d : held f ≡ deposit = rw e in
@@ -248,15 +248,15 @@ module _ {c : Call} {n : ℕ} {s : List ℕ} {f : Record} (D : Due c n s f) {g :
 
   pub seller-begun : f .state ≡ 3 → hasMoney (viewOf (decode s) (c .account) f) f ≡ true → h ≡ deposit
       → g ≡ recordOf (withLot f (PenaltyDue (f .seller) (f .buyer) (decode s .day + 1)))
-      → Begun s s₁ (entryOf n 13 (f .seller) (f .buyer) 0) (withLot f (PenaltyDue (f .seller) (f .buyer) (decode s .day + 1))) (from (f .buyer) h) (fen 0)
-      (from (f .buyer) (fen 0))
+      → Begun s s₁ (entryOf n 13 (f .seller) (f .buyer) 0) (withLot f (PenaltyDue (f .seller) (f .buyer) (decode s .day + 1))) (holdFrom (f .buyer) h) (fen 0)
+      (holdFrom (f .buyer) (fen 0))
   unfolding moneyOf recordOf held
   seller-begun e m q i =
       let d : held f ≡ deposit = rw e in
       begun (can-post c n s (D .at) (through D) (seller-defaults D e m)) i p (had (decode s) n f (D .read) (d ∙ sym q)) refl refl
 
   pub both-begun : f .state ≡ 3 → hasMoney (viewOf (decode s) (c .account) f) f ≡ false → h ≡ deposit → g ≡ recordOf (withLot f Idle)
-      → Begun s s₁ (entryOf n 14 (f .seller) (f .buyer) 0) (withLot f Idle) (from (f .buyer) h) (fen 0) (from 0 (fen 0))
+      → Begun s s₁ (entryOf n 14 (f .seller) (f .buyer) 0) (withLot f Idle) (holdFrom (f .buyer) h) (fen 0) (holdFrom 0 (fen 0))
   unfolding moneyOf recordOf held
   both-begun e m q i =
       let d : held f ≡ deposit = rw e in
@@ -264,7 +264,7 @@ module _ {c : Call} {n : ℕ} {s : List ℕ} {f : Record} (D : Due c n s f) {g :
 
   pub penalty-begun : f .state ≡ 7 → h ≡ penaltyPassed (freeOf (decode s .accounts) (f .seller)) → g ≡ recordOf (withLot f Idle)
       → Begun s s₁ (entryOf n 15 (f .seller) (f .buyer) (penaltyPassed (freeOf (decode s .accounts) (f .seller)) .0)) (withLot f Idle)
-      (from (f .buyer) (fen 0)) h (from 0 (fen 0))
+      (holdFrom (f .buyer) (fen 0)) h (holdFrom 0 (fen 0))
   unfolding moneyOf recordOf held
   penalty-begun e q i =
       let d : held f ≡ fen 0 = rw e in
@@ -289,14 +289,14 @@ module _ (c : Call) (n : ℕ) (s : List ℕ) {f : Record} (k : c .kind ≡ 15) (
   module _ (at : Visited n s) {g : Record} {s₁ : List ℕ} (p : RecordPut n s g s₁) (i : g ≡ recordOf (withLot f Idle)) where
     -- with no bid nothing was held, with one the deposit
     pub listed-begun : f .state ≡ 1
-        → Begun s s₁ (entryOf n 3 (f .seller) (f .buyer) 0) (withLot f Idle) (from (f .buyer) (fen 0)) (fen 0) (from 0 (fen 0))
+        → Begun s s₁ (entryOf n 3 (f .seller) (f .buyer) 0) (withLot f Idle) (holdFrom (f .buyer) (fen 0)) (fen 0) (holdFrom 0 (fen 0))
     unfolding moneyOf recordOf held
     listed-begun e =
         let d : held f ≡ fen 0 = rw e in
         begun (can-post c n s at (rw k) (ends 1 e refl)) i p (had (decode s) n f r d) refl refl
 
     pub bid-begun : {h : Fen} → f .state ≡ 2 → h ≡ deposit
-        → Begun s s₁ (entryOf n 3 (f .seller) (f .buyer) 0) (withLot f Idle) (from (f .buyer) h) (fen 0) (from 0 (fen 0))
+        → Begun s s₁ (entryOf n 3 (f .seller) (f .buyer) 0) (withLot f Idle) (holdFrom (f .buyer) h) (fen 0) (holdFrom 0 (fen 0))
     unfolding moneyOf recordOf held
     bid-begun e q =
         let d : held f ≡ deposit = rw e in
