@@ -1,4 +1,5 @@
 // A call at one lot of an image: what its rule reads, and what it does there.
+#![tactic(auto)]
 ghost use Rattle.std.specs.Prelude.{true, ◌≡◌, ℕ, ◌+◌, ◌≤◌, ◌<◌, length};
 ghost use Rattle.units.specs.Ranges.{contract_count, receipt_count};
 ghost use Rattle.zone.specs.Valid.{record_valid, valid_zone};
@@ -98,7 +99,7 @@ pub fn step_of(image: &[u8], c: Call) -> Step
 // ── A lot that a call through all lots comes by ─────────────────────────────────────────────────
 
 // What is listed of the lot.
-#[derive(Drop)]
+#[derive(Clone, Copy)]
 pub enum Noted {
     One(Entry),
     Nothing,

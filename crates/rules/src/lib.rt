@@ -1,4 +1,5 @@
 // The values that the rules read and give, and the entries of events.
+#![tactic(auto)]
 ghost use Rattle.std.specs.Prelude.{◌≡◌};
 ghost use Rattle.rules.specs.Effects.{owned_by, with_lot};
 
@@ -105,7 +106,7 @@ pub const NUMBER_BAD_TABLE: u8 = 14;
 
 // A call record, field by field; `spare` is the number of its three zero bytes as they came, `basis` the premium where a receipt is
 // registered.
-#[derive(Drop)]
+#[derive(Clone, Copy)]
 pub struct Call {
     pub kind: u8,
     pub account: u8,
@@ -119,7 +120,7 @@ pub struct Call {
 }
 
 // A line of an answer. The number is a price in outcomes 4 and 6, and fen in those others that have one.
-#[derive(Drop)]
+#[derive(Clone, Copy)]
 pub struct Entry {
     pub lot: u8,
     pub outcome: u8,
@@ -129,7 +130,7 @@ pub struct Entry {
 }
 
 // Free money of the caller, of the lot's buyer and of its seller.
-#[derive(Drop)]
+#[derive(Clone, Copy)]
 pub struct FreeMoney {
     pub caller: Fen,
     pub buyer: Fen,
@@ -137,7 +138,7 @@ pub struct FreeMoney {
 }
 
 // What a rule reads of the zone beside the record of its lot.
-#[derive(Drop)]
+#[derive(Clone, Copy)]
 pub struct View {
     pub day: u16,
     pub afternoon: bool,
@@ -148,14 +149,14 @@ pub struct View {
 }
 
 // What a rule does at a lot: nothing, or an event, which is an entry and the receipt as it is after.
-#[derive(Drop)]
+#[derive(Clone, Copy)]
 pub enum AtLot {
     NoEvent,
     Event(Entry, Receipt),
 }
 
 // The outcome of a step: a refusal number, or what the call does at the receipt that it names.
-#[derive(Drop)]
+#[derive(Clone, Copy)]
 pub enum Step {
     Refused(u8),
     Accepted(AtLot),

@@ -1,26 +1,27 @@
 // Yuan per tonne, fen and kilograms as types, the ranges of numbers, and the money of a trade.
+#![tactic(auto)]
 ghost use Rattle.std.specs.Prelude.{◌≡◌, ◌+◌, ◌≤◌, ◌<◌, ◌^◌, eqb};
 ghost use Rattle.units.specs.Ranges.{is_zero, is_account, is_receipt, is_contract, is_days, is_price, is_ask, most_weight, is_basis, is_premium, is_weight, is_amount};
 ghost use Rattle.units.specs.Payments.{unit_price, at_least_0, payable, full_payment, first_payment, rest_payment, paid_so_far, part_payment, deposit, penalty_passed};
 
 // A price: whole yuan per tonne.
-#[derive(Drop)]
+#[derive(Clone, Copy)]
 pub struct YuanPerTonne(pub u32);
 
 // What a listing adds to the price of its reference contract: whole yuan per tonne, of either sign.
-#[derive(Drop)]
+#[derive(Clone, Copy)]
 pub struct Basis(pub i32);
 
 // What a receipt adds to the price for the grade of its bales, in every sale: whole yuan per tonne, of either sign.
-#[derive(Drop)]
+#[derive(Clone, Copy)]
 pub struct Premium(pub i32);
 
 // Money: whole fen.
-#[derive(Drop)]
+#[derive(Clone, Copy)]
 pub struct Fen(pub u64);
 
 // Weight.
-#[derive(Drop)]
+#[derive(Clone, Copy)]
 pub struct Kilograms(pub u32);
 
 // ── Counts and limits ───────────────────────────────────────────────────────────────────────────

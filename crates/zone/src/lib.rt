@@ -1,4 +1,5 @@
 // The values of a zone: its accounts, and its receipts with their lots. A lot is the sale of its receipt; one number names both.
+#![tactic(auto)]
 ghost use Rattle.std.specs.Prelude.{◌≡◌};
 ghost use Rattle.zone.specs.Record.{record_of, flat_record, no_listing, no_bid, no_invoices, listing_of, bid_of, trade_of};
 
@@ -24,14 +25,14 @@ pub const STATE_PENALTY_DUE: u8 = 7;
 
 // ── Values ──────────────────────────────────────────────────────────────────────────────────────
 
-#[derive(Drop)]
+#[derive(Clone, Copy)]
 pub struct Account {
     pub free: Fen,
     pub frozen: Fen,
 }
 
 // What a seller lists: its contract, the days D until delivery and the basis.
-#[derive(Drop)]
+#[derive(Clone, Copy)]
 pub struct Listing {
     pub seller: u8,
     pub contract: u8,
@@ -39,20 +40,20 @@ pub struct Listing {
     pub basis: Basis,
 }
 
-#[derive(Drop)]
+#[derive(Clone, Copy)]
 pub struct Bid {
     pub buyer: u8,
     pub price: YuanPerTonne,
 }
 
-#[derive(Drop)]
+#[derive(Clone, Copy)]
 pub struct Trade {
     pub listing: Listing,
     pub bid: Bid,
     pub due: u16,
 }
 
-#[derive(Drop)]
+#[derive(Clone, Copy)]
 pub struct Invoices {
     pub pending: Fen,
     pub confirmed: Fen,
@@ -60,7 +61,7 @@ pub struct Invoices {
 }
 
 // The eight states, 0 to 7 in this order.
-#[derive(Drop)]
+#[derive(Clone, Copy)]
 pub enum Lot {
     Idle,
     Listed(Listing),
@@ -73,7 +74,7 @@ pub enum Lot {
 }
 
 // The premium is the receipt's, as its weight is: no sale changes it.
-#[derive(Drop)]
+#[derive(Clone, Copy)]
 pub struct Receipt {
     pub owner: u8,
     pub weight: Kilograms,
@@ -81,7 +82,7 @@ pub struct Receipt {
     pub lot: Lot,
 }
 
-#[derive(Drop)]
+#[derive(Clone, Copy)]
 pub struct Zone {
     pub day: u16,
     pub afternoon: bool,
@@ -92,7 +93,7 @@ pub struct Zone {
 }
 
 // A receipt field by field, as its record in the image has it. Fields not filled are zero.
-#[derive(Drop)]
+#[derive(Clone, Copy)]
 pub struct Record {
     pub owner: u8,
     pub state: u8,
@@ -111,7 +112,7 @@ pub struct Record {
 }
 
 // Money and whose it is: what a lot holds from an account, or what the account owes for it.
-#[derive(Drop)]
+#[derive(Clone, Copy)]
 pub struct Hold {
     pub from: u8,
     pub fen: Fen,

@@ -9,8 +9,8 @@ use lib.Dec.{leb, ltb, eqb}
 use Rattle.units.specs.Laws.Bounds.{rest_le, so_far_le_rest}
 use Rattle.units.specs.Payments.{rest_payment, paid_so_far}
 use borrow.Author.Rules.{rules}
-use Rattle.units.proofs.is_paid_so_far.Statement.{statement}
-use Rattle.units.proofs.is_paid_so_far.Tie as tie
+use Rattle.units.proofs.is_paid_so_far.Goals as goal
+use Rattle.units.proofs.is_paid_so_far.Goals.{After-rest_payment-rest, Else-rest-so_far}
 
 -- a quotient known by two products
 by-products : (x y k : ℕ) → 0 < k → leb (x * k) y && ltb y (x * k + k) ≡ eqb x (y / k)
@@ -34,44 +34,37 @@ by-products x y k some = go (leb (x * k) y) (ltb y (x * k + k)) (eqb x (y / k)) 
     go false b false p q e = refl
 
 -- the rest is part of full
-rest-small : (c : tie.After-rest-payment) → c.rest-payment.result.0 ≤ c.before.args.full.0
-rest-small c = rw c.rest-payment.ensures (rest_le c.before.args.full)
+rest-small : (c : After-rest_payment-rest) → c.rest_payment-rest.result.0 ≤ c.args.full.0
+rest-small c = rw c.rest_payment-rest.ensures (rest_le c.args.full)
 
-rest-payment-requires : tie.Need-rest-payment-requires
-rest-payment-requires c κs = search rules
+pub returns-then-rest-so_far : goal.returns-then-rest-so_far
+returns-then-rest-so_far c =
+    let a = c.args in
+    let more : (rest_payment a.full).0 < a.paid.0 = rw c.rest_payment-rest.ensures at c.if-rest-so_far.true in
+    sym (ne_eqb a.paid.0 (paid_so_far a.full a.confirmed).0 (λ e. omega (arith, so_far_le_rest a.full a.confirmed (omega (arith, c.requires)))))
 
-returns : tie.Need-returns
-returns c =
-    let a = c.before.before.args in
-    let more : (rest_payment a.full).0 < a.paid.0 = rw c.before.rest-payment.ensures at c.if1.true in
-    sym (ne_eqb a.paid.0 (paid_so_far a.full a.confirmed).0 (λ e. omega (arith, so_far_le_rest a.full a.confirmed (omega (arith, c.before.before.requires)))))
-
-mul-product : tie.Need-overflow-mul-product
-mul-product c =
-    let a = c.before.before.args in
-    let rest : c.before.rest-payment.result.0 ≤ 4294967295 = omega (arith, rest-small c.before) in
-    let sum : a.confirmed.0 ≤ 4294967295 = omega (arith, c.before.before.requires) in
+pub overflow_mul-product : goal.overflow_mul-product
+overflow_mul-product c =
+    let a = c.args in
+    let rest : c.rest_payment-rest.result.0 ≤ 4294967295 = omega (arith, rest-small c.before) in
+    let sum : a.confirmed.0 ≤ 4294967295 = omega (arith, c.requires) in
     omega (arith, mul-le-mul rest sum)
 
 -- what was paid is below 2 ^ 32 too
-lower-small : (c : tie.Else1) → c.before.before.args.paid.0 * c.before.before.args.full.0 ≤ 4294967295 * 4294967295
+lower-small : (c : Else-rest-so_far) → c.args.paid.0 * c.args.full.0 ≤ 4294967295 * 4294967295
 lower-small c =
-    let paid : c.before.before.args.paid.0 ≤ 4294967295 = omega (arith, rest-small c.before, c.if1.false, c.before.before.requires) in
-    let all : c.before.before.args.full.0 ≤ 4294967295 = omega (arith, c.before.before.requires) in
+    let paid : c.args.paid.0 ≤ 4294967295 = omega (arith, rest-small c.before, c.if-rest-so_far.false, c.requires) in
+    let all : c.args.full.0 ≤ 4294967295 = omega (arith, c.requires) in
     mul-le-mul paid all
 
-mul-lower : tie.Need-overflow-mul-lower
-mul-lower c = omega (arith, lower-small c)
+pub overflow_mul-lower : goal.overflow_mul-lower
+overflow_mul-lower c = omega (arith, lower-small c)
 
-add-result : tie.Need-overflow-add-result
-add-result c = omega (arith, lower-small c, c.before.before.requires)
+pub overflow_add-result : goal.overflow_add-result
+overflow_add-result c = omega (arith, lower-small c, c.requires)
 
-returns-2 : tie.Need-returns-2
+pub returns : goal.returns
 unfolding paid_so_far
-returns-2 c =
-    let a = c.before.before.args in
-    rw c.before.rest-payment.ensures (by-products a.paid.0 ((rest_payment a.full).0 * a.confirmed.0) a.full.0 (omega (arith, c.before.before.requires)))
-
-pub is-paid-so-far-spec : {M : Type 1} → statement M
-is-paid-so-far-spec =
-    tie.close (tie.spec rest-payment-requires returns mul-product mul-lower add-result returns-2)
+returns c =
+    let a = c.args in
+    rw c.rest_payment-rest.ensures (by-products a.paid.0 ((rest_payment a.full).0 * a.confirmed.0) a.full.0 (omega (arith, c.requires)))
