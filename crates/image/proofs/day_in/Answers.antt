@@ -1,0 +1,6 @@
+-- The number of the two bytes.
+use borrow.Author.Rules.{rules}
+use Rattle.image.proofs.day_in.Goals as goal
+
+pub returns : goal.returns
+returns c = c.get_u16.ensures

@@ -1,0 +1,5 @@
+use borrow.Author.Rules.{rules}
+use Rattle.rules.proofs.with_lot.Goals as goal
+
+pub returns : goal.returns
+returns c = c.owned_by.ensures

@@ -1,0 +1,6 @@
+-- Each part is a test of its own.
+use borrow.Author.Rules.{rules}
+use Rattle.validity.proofs.buyer_fits.Goals as goal
+
+pub returns : goal.returns
+returns c = rw c.is_account.ensures
