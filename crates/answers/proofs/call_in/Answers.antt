@@ -1,0 +1,32 @@
+use mathlib.Core.Path.{◌≡◌, ◌∙◌}
+use Prim.Native.Nat.{ℕ}
+use native.Mathlib.Omega.{arith}
+use lib.IntN.{ℤ}
+use mir.Syntax.{w32}
+use mir.Facts.{to_z-of_z}
+use Rattle.wire.specs.LittleEndian.{le_at}
+use Rattle.wire.specs.Laws.Bytes.{le_at_add}
+use Rattle.rules.specs.declared.Call.{Call}
+use Rattle.answers.specs.Buffers.{call_in}
+use borrow.Author.Rules.{rules}
+use Rattle.answers.proofs.call_in.Goals as goal
+
+call-eq : {k a r q d s s' n n' : ℕ} {b b' : ℤ} {w w' : ℕ} → s ≡ s' → n ≡ n' → b ≡ b' → w ≡ w' →
+    ◌≡◌ {A = Call} (record { kind = k; account = a; receipt = r; contract = q; days = d; spare = s; amount = n; basis = b; weight = w })
+    (record { kind = k; account = a; receipt = r; contract = q; days = d; spare = s'; amount = n'; basis = b'; weight = w' })
+call-eq e1 e2 e3 e4 = cc
+
+pub overflow_mul-spare : goal.overflow_mul-spare
+overflow_mul-spare c = omega (arith, c.wide.ensures.1)
+
+pub overflow_add-spare : goal.overflow_add-spare
+overflow_add-spare c = omega (arith, c.wide.ensures.1)
+
+pub returns : goal.returns
+unfolding call_in le_at
+returns c =
+    call-eq
+    (omega (arith, le_at_add 2 1 c.args.s.now 5, c.get_u16.ensures, c.wide.ensures.0))
+    c.get_u64-amount.ensures
+    (to_z-of_z {w = w32} {z = c.get_i32-basis.result} (record { sfits = c.get_i32-basis.type_inv }) ∙ c.get_i32-basis.ensures)
+    c.get_u32-weight.ensures

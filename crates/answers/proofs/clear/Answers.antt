@@ -1,0 +1,5 @@
+use borrow.Author.Rules.{rules}
+use Rattle.answers.proofs.clear.Goals as goal
+
+pub returns : goal.returns
+returns c = c.put_zeros.ensures

@@ -1,0 +1,16 @@
+use mathlib.Core.List.{List, [], ◌∷◌}
+use mathlib.Core.Path.{refl, sym, ap, ◌∙◌}
+use Prim.Native.Nat.{ℕ}
+use native.Mathlib.Omega.{arith}
+use lib.Seq.{sets}
+use Rattle.answers.specs.Laws.Answer.{run_over_zeros}
+use borrow.Author.Rules.{rules}
+use Rattle.answers.proofs.refuse.Goals as goal
+
+pub returns : goal.returns
+returns c =
+    let a = c.args in (
+      refl,
+      ap (λ (s : List ℕ). sets s 0 (a.n ∷ [])) (sym c.requires.1)
+          ∙ run_over_zeros a.answer.now (a.n ∷ []) c.requires.0 (omega arith),
+    )

@@ -1,0 +1,86 @@
+use mathlib.Core.List.{[], ◌∷◌}
+use mathlib.Core.Logic.{⊎_elim, inl}
+use mathlib.Core.Path.{◌≡◌, sym, ap, refl}
+use native.Mathlib.Omega.{arith}
+use mir.Syntax.{w32}
+use mir.Val.{to_z, of_z}
+use mir.Facts.{to_z-of_z}
+use borrow.Author.Rules.{rules}
+use Rattle.rules.specs.Numbers.{brackets}
+use Rattle.rules.specs.Laws.Arms.{at_run, no_key, above}
+use Rattle.fields.proofs.UsedFields.{in_row, named_lot, left_lot}
+use Rattle.fields.proofs.in_range.Goals as goal
+use Rattle.fields.proofs.in_range.Goals.{Start}
+
+-- the basis as the machine holds it
+kept : (c : Start) → to_z w32 (of_z w32 c.args.c.basis) ≡ c.args.c.basis
+kept c = to_z-of_z {w = w32} (search rules)
+
+pub returns-in-3 : goal.returns-in-3
+returns-in-3 c =
+    rw (
+      c.names_lot.ensures,
+      c.is_premium.ensures,
+      c.is_weight.ensures,
+      kept c.before.before.before.before.before,
+    )
+    (in_row c.args.c (ap brackets (sym c.in-3.keys1)))
+
+pub returns-in-4 : goal.returns-in-4
+returns-in-4 c =
+    rw (
+      c.names_lot-in-4.ensures,
+      c.is_contract.ensures,
+      c.is_days.ensures,
+      c.is_basis.ensures,
+      kept c.before.before.before.before.before.before,
+    )
+    (in_row c.args.c
+    (ap brackets (sym c.in-3.keys2)))
+
+pub returns-in-6 : goal.returns-in-6
+returns-in-6 c =
+    rw (c.names_lot-in-6.ensures, c.is_price.ensures)
+    (in_row c.args.c (ap brackets (sym c.in-3.keys4)))
+
+pub returns-in-9 : goal.returns-in-9
+returns-in-9 c =
+    rw (c.is_contract-in-9.ensures, c.is_ask.ensures)
+    (in_row c.args.c (ap brackets (sym c.in-3.keys5)))
+
+pub returns-in-13 : goal.returns-in-13
+returns-in-13 c =
+    rw (c.names_lot-in-13.ensures, c.is_amount.ensures)
+    (in_row c.args.c (ap brackets (sym c.in-3.keys6)))
+
+pub returns-in-1 : goal.returns-in-1
+returns-in-1 c =
+    rw (c.is_account.ensures, c.is_amount-in-1.ensures)
+    (in_row c.args.c
+    (at_run brackets 1 2 (refl, (refl, tt)) c.if-kind-lt1.false c.if-kind-lt3.true))
+
+pub returns-in_default : goal.returns-in_default
+returns-in_default c = in_row c.args.c (at_run brackets 0 1 (refl, tt) (omega arith) c.if-kind-lt1.true)
+
+pub returns-in_default-2 : goal.returns-in_default-2
+returns-in_default-2 c =
+    let a = c.args.c in
+    let o = c.in-3.rest in
+    in_row a {fs = []}
+    (simp (
+      above a.kind 9 c.if-kind-lt9.false,
+      no_key _ (5 ∷ 10 ∷ 12 ∷ 14 ∷ []) o.0.0.0.1,
+      no_key _ (9 ∷ []) o.0.1,
+      no_key _ (13 ∷ []) o.1,
+    ))
+
+pub returns-in-5 : goal.returns-in-5
+returns-in-5 c =
+    rw c.names_lot-in-5.ensures
+    (in_row c.args.c
+    (⊎_elim
+    (λ w. named_lot _ w.keys3)
+    (λ w.
+    let o = w.0.rest in
+    left_lot _ w.2.left o.0.0.0.0.0.1 o.0.0.0.0.1 (λ e. o.0.0.0.1 (inl e)) o.0.0.1 w.3.taken)
+    c.in-3.branch))

@@ -1,0 +1,7 @@
+use Rattle.rules.specs.Effects.{market_bid}
+use borrow.Author.Rules.{rules}
+use Rattle.offers.proofs.market_bid.Goals as goal
+
+pub returns : goal.returns
+unfolding market_bid
+returns c = c.strike.ensures

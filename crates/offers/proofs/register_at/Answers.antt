@@ -1,0 +1,7 @@
+use Rattle.rules.specs.Effects.{register}
+use borrow.Author.Rules.{rules}
+use Rattle.offers.proofs.register_at.Goals as goal
+
+pub returns : goal.returns
+unfolding register
+returns c = rw (c.by_owner-e.ensures, c.premium_of.ensures)

@@ -1,0 +1,17 @@
+-- Two runs, one behind the other.
+use mathlib.Core.Path.{◌≡◌}
+use mir.Syntax.{w32}
+use mir.Val.{to_z, of_z}
+use mir.Facts.{to_z-of_z}
+use Rattle.put.proofs.Runs.{whole}
+use borrow.Author.Rules.{rules}
+use Rattle.put.proofs.record_bytes.Goals as goal
+use Rattle.put.proofs.record_bytes.Goals.{Start}
+
+-- the premium as the machine holds it
+kept : (c : Start) → to_z w32 (of_z w32 c.args.r.premium.0) ≡ c.args.r.premium.0
+kept c = to_z-of_z {w = w32} (search rules)
+
+pub returns : goal.returns
+returns c =
+    whole c.args.at c.args.r c.args.image.now _ (kept c.before.before.before.before.before.before.before.before.before.before) c.record_but_premium.ensures c.put_i32.ensures

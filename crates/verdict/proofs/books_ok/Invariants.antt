@@ -1,0 +1,22 @@
+-- The bits and the money of the first i accounts are gathered, in 64 bits; the measure is the accounts that are left.
+use Rattle.std.proofs.Common.{◌≡◌, ℕ, ◌-◌, ◌≤◌, true, List, length, sym, refl, ap, ◌∙◌, arith, rules}
+use borrow.Author.Tests.{not-true, not-false}
+use lib.ListN.{length-map}
+use Rattle.units.specs.Ranges.{account_count, receipt_count}
+use Rattle.zone.specs.declared.Account.{Account}
+use Rattle.zone.specs.Valid.{all, record_valid}
+use Rattle.image.specs.Layout.{account_run, account_in, accounts_in, records_in}
+use Rattle.image.specs.Laws.Table.{length_table}
+use Rattle.verdict.specs.Sums.{frozen_sums}
+use Rattle.verdict.specs.Laws.Bits.{sum_small, free_bits, other_bits, wrapped, free_more, other_more, wrapped_more, bits_decide}
+use Rattle.verdict.specs.Laws.Verdict.{all_marked}
+use Rattle.verdict.proofs.books_ok.Given as goal
+
+abbrev pub invariant-loop-i : goal.invariant-loop-i
+invariant-loop-i l =
+    (l.i ≤ account_count) × (l.free_bits ≡ free_bits (accountOf l.image) l.i) × (l.other_bits ≡ other_bits (accountOf l.image) l.sums l.i)
+    × (l.money ≡ wrapped (accountOf l.image) l.sums l.i)
+
+abbrev pub decreases-loop-i : goal.decreases-loop-i
+decreases-loop-i l =
+    account_count - l.i
