@@ -14,4 +14,4 @@ kept c = to_z-of_z {w = w32} (search rules)
 
 pub returns : goal.returns
 returns c =
-    whole c.args.at c.args.r c.args.image.now _ (kept c.before.before.before.before.before.before.before.before.before.before) c.record_but_premium.ensures c.put_i32.ensures
+    whole c.args.at c.args.r c.args.image.now _ (kept (goal.at.returns c).Start) c.record_but_premium.ensures c.put_i32.ensures

@@ -14,4 +14,4 @@ kept c = to_z-of_z {w = w32} (search rules)
 
 pub returns : goal.returns
 returns c =
-    start c.args.at c.args.r c.args.image.now _ (kept c.before.before.before.before.before.before.before.before.before.before.before.before.before.before.before.before.before.before.before) c.put_run.ensures c.put_u16.ensures c.put_u32.ensures c.put_i32.ensures
+    start c.args.at c.args.r c.args.image.now _ (kept (goal.at.returns c).Start) c.put_run.ensures c.put_u16.ensures c.put_u32.ensures c.put_i32.ensures

@@ -10,12 +10,9 @@ use Rattle.image.specs.Laws.Table.{length_table}
 use Rattle.verdict.specs.Sums.{frozen_sums}
 use Rattle.verdict.specs.Laws.Bits.{sum_small, free_bits, other_bits, wrapped, free_more, other_more, wrapped_more, bits_decide}
 use Rattle.verdict.specs.Laws.Verdict.{all_marked}
+use Rattle.verdict.proofs.books_ok.Invariants.{account_of}
 use Rattle.verdict.proofs.books_ok.Goals as goal
 use Rattle.verdict.proofs.books_ok.Goals.{After-frozen_sums-sums, After-all_set}
-
--- account k of the image
-abbrev accountOf : List ℕ → ℕ → Account
-accountOf s k = account_in (account_run s k)
 
 pub slice_bounds-frozen_sums-end : goal.slice_bounds-frozen_sums-end
 slice_bounds-frozen_sums-end c = refl
@@ -24,22 +21,22 @@ pub frozen_sums-sums-requires : goal.frozen_sums-sums-requires
 frozen_sums-sums-requires c = (c.requires.0, refl)
 
 -- as many marks as records
-marks-count : (c : After-frozen_sums-sums) → length c.frozen_sums-sums.new.1.0 ≡ receipt_count
+marks-count : (c : After-frozen_sums-sums) → length c.frozen_sums-sums.new.valid ≡ receipt_count
 unfolding records_in
 marks-count c = ap length c.frozen_sums-sums.ensures.1 ∙ length-map (records_in c.args.image.now) record_valid ∙ length_table receipt_count _
 
 pub slice_bounds-all_set-end : goal.slice_bounds-all_set-end
-slice_bounds-all_set-end c = sym (marks-count c.before.before)
+slice_bounds-all_set-end c = sym (marks-count (goal.at.slice_bounds-all_set-end c).After-frozen_sums-sums)
 
 pub all_set-requires : goal.all_set-requires
-all_set-requires c = marks-count c.before.before
+all_set-requires c = marks-count (goal.at.all_set-requires c).After-frozen_sums-sums
 
 -- the marks tell whether all records are valid
 told : (c : After-all_set) → c.all_set.result ≡ all record_valid (records_in c.args.image.now)
 told c = c.all_set.ensures ∙ ap (all (λ b. b)) c.frozen_sums-sums.ensures.1 ∙ all_marked _
 
 pub returns-then-not-all_set : goal.returns-then-not-all_set
-returns-then-not-all_set c = rw (sym (told c.before) ∙ c.if-not-all_set.true)
+returns-then-not-all_set c = rw (sym (told (goal.at.returns-then-not-all_set c).After-all_set) ∙ c.if-not-all_set.true)
 
 pub loop-i-init : goal.loop-i-init
 unfolding free_bits other_bits wrapped
@@ -47,14 +44,14 @@ loop-i-init c = (omega arith, refl, refl, refl)
 
 pub loop-i-preserved : goal.loop-i-preserved
 loop-i-preserved c =
-    let f = accountOf c.args.image.now in
+    let f = account_of c.args.image.now in
     let sums = c.frozen_sums-sums.result in
     let l = c.loop-i in
     let a = c.account_at-a.ensures in (
       omega arith,
       rw (l.invariant.1, a) (sym (free_more f l.i)),
       rw (l.invariant.2, a) (sym (other_more f sums l.i)),
-      rw (c.wrapping_add_u64-money.ensures, c.wrapping_add_u64.ensures, l.invariant.3, a) (sym (wrapped_more f sums l.i)),
+      rw (c.wrapping_add_u64-money.ensures.value, c.wrapping_add_u64.ensures.value, l.invariant.3, a) (sym (wrapped_more f sums l.i)),
     )
 
 pub returns : goal.returns
@@ -63,6 +60,6 @@ returns c =
     let s = c.args.image.now in
     let l = c.loop-i in
     let e : l.i ≡ account_count = omega arith in
-    let valid : all record_valid (records_in s) ≡ true = sym (told c.before.before.before) ∙ c.if-not-all_set.false in
+    let valid : all record_valid (records_in s) ≡ true = sym (told (goal.at.returns c).After-all_set) ∙ c.if-not-all_set.false in
     rw (l.invariant.1, l.invariant.2, l.invariant.3, valid, c.frozen_sums-sums.ensures.0, e)
-    (bits_decide (accountOf s) (frozen_sums s) (sum_small s) c.args.total c.requires.1 account_count (omega arith))
+    (bits_decide (account_of s) (frozen_sums s) (sum_small s) c.args.total c.requires.1 account_count (omega arith))

@@ -12,10 +12,14 @@ use Rattle.verdict.specs.Laws.Bits.{sum_small, free_bits, other_bits, wrapped, f
 use Rattle.verdict.specs.Laws.Verdict.{all_marked}
 use Rattle.verdict.proofs.books_ok.Given as goal
 
+-- account k of the image
+abbrev pub account_of : List ℕ → ℕ → Account
+account_of s k = account_in (account_run s k)
+
 abbrev pub invariant-loop-i : goal.invariant-loop-i
 invariant-loop-i l =
-    (l.i ≤ account_count) × (l.free_bits ≡ free_bits (accountOf l.image) l.i) × (l.other_bits ≡ other_bits (accountOf l.image) l.sums l.i)
-    × (l.money ≡ wrapped (accountOf l.image) l.sums l.i)
+    (l.i ≤ account_count) × (l.free_bits ≡ free_bits (account_of l.image) l.i) × (l.other_bits ≡ other_bits (account_of l.image) l.sums l.i)
+    × (l.money ≡ wrapped (account_of l.image) l.sums l.i)
 
 abbrev pub decreases-loop-i : goal.decreases-loop-i
 decreases-loop-i l =

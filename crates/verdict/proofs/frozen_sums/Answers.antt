@@ -44,14 +44,14 @@ marked_next c =
     ap (λ (m : List Bool). marked m (l.i - 1) (record_valid (rec s (l.i - 1)))) l.invariant.2 ∙ marks_turn s l.i (omega arith) (omega arith)
 
 pub bounds-sums-place : goal.bounds-sums-place
-bounds-sums-place c = omega (arith, from-known c.before.before.before.before)
+bounds-sums-place c = omega (arith, from-known (goal.at.bounds-sums-place c).After-hold_at-h)
 
 pub plus-requires : goal.plus-requires
 plus-requires c =
-    sum_room c.args.image.now valid_hold hold_known hold_small c.loop-i.i _ c.loop-i.invariant.1 _ (omega (arith, from-known c.before.before.before.before.before)) _ (fen-small c.before.before.before.before.before)
+    sum_room c.args.image.now valid_hold hold_known hold_small c.loop-i.i _ c.loop-i.invariant.1 _ (omega (arith, from-known (goal.at.plus-requires c).After-hold_at-h)) _ (fen-small (goal.at.plus-requires c).After-hold_at-h)
 
 pub bounds-sums-place-then-from-ne0 : goal.bounds-sums-place-then-from-ne0
-bounds-sums-place-then-from-ne0 c = omega (arith, from-known c.before.before.before.before.before.before)
+bounds-sums-place-then-from-ne0 c = omega (arith, from-known (goal.at.bounds-sums-place-then-from-ne0 c).After-hold_at-h)
 
 pub loop-i-preserved-then-from-ne0 : goal.loop-i-preserved-then-from-ne0
 loop-i-preserved-then-from-ne0 c =
@@ -63,7 +63,7 @@ loop-i-preserved-then-from-ne0 c =
           ∙ ap (λ (m : List Fen). set m (h.from - 1) (fen (sum_at m (h.from - 1) + h.fen.0))) l.invariant.1
           ∙ sym (add_some h.from h.fen.0 (sums_by valid_hold (last_records s l.i)) c.if-from-ne0.true)
           ∙ sums_turn s valid_hold l.i (omega arith) (omega arith) h c.hold_at-h.ensures.0,
-      c.hold_at-h.ensures.1 ∙ marked_next c.before.before.before.before.before.before,
+      c.hold_at-h.ensures.1 ∙ marked_next (goal.at.loop-i-preserved-then-from-ne0 c).After-hold_at-h,
     )
 
 pub loop-i-preserved : goal.loop-i-preserved
@@ -74,7 +74,7 @@ loop-i-preserved c =
       omega arith,
       l.invariant.1 ∙ sym (add_none h.from h.fen.0 (sums_by valid_hold (last_records s l.i)) c.if-from-ne0.false)
           ∙ sums_turn s valid_hold l.i (omega arith) (omega arith) h c.hold_at-h.ensures.0,
-      c.hold_at-h.ensures.1 ∙ marked_next c.before.before.before.before,
+      c.hold_at-h.ensures.1 ∙ marked_next (goal.at.loop-i-preserved c).After-hold_at-h,
     )
 
 pub shape_of-valid : goal.shape_of-valid
