@@ -5,6 +5,8 @@
 // frozen money together. What is frozen is never moved: it is counted anew from the lots wherever it is asked for. A call's entries
 // stand in columns beside the lots that they are about. The book is in `ledger_book`, the image in `ledger_image`, the tests of a call
 // in `ledger_numbers`, what a call does in `ledger_kinds`; here are the answer, the shortfalls and the four entries.
+#![tactic(auto)]
+
 mod answers;
 mod call_tables;
 mod figures;

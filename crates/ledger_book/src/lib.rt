@@ -1,5 +1,7 @@
 // The second ledger's book: what stands where in the buffers, the columns that an image is read into, and what the lots hold. It is
 // written from documents 01 and 02 alone and shares no code with the library.
+#![tactic(auto)]
+
 mod call_tables;
 mod columns;
 mod fields;

@@ -305,7 +305,7 @@ const ENDS: [u64; PLACED_COLUMNS] = [
 // ── Tables ──────────────────────────────────────────────────────────────────────────────────────
 
 // Records of one length, one behind another, and the column of their first field.
-#[derive(Drop)]
+#[derive(Clone, Copy)]
 struct Table {
     first: u64,
     start: u64,

@@ -6,7 +6,7 @@ use crate::places::{
 };
 
 // `amount` is a price in bids and quotes, `basis` the premium where a receipt is registered.
-#[derive(Drop)]
+#[derive(Clone, Copy)]
 pub struct Call {
     pub kind: u64,
     pub account: u64,

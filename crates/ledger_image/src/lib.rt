@@ -1,4 +1,6 @@
 // The second ledger's images: read into the book, judged, and written from the book.
+#![tactic(auto)]
+
 mod judge;
 mod read;
 mod write;

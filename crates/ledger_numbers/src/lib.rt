@@ -1,4 +1,6 @@
 // The number that the second ledger returns for a call: each kind tests, in rising order, the numbers that can apply to it.
+#![tactic(auto)]
+
 mod bids;
 mod lots;
 mod money;

@@ -1,4 +1,6 @@
 // The calls of the long runs: drawn by what the image has, so that lots go through all states, or given by their number.
+#![tactic(auto)]
+
 mod lots;
 mod openings;
 mod plans;

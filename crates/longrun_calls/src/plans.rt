@@ -8,7 +8,7 @@ use longrun_draws::{
 
 // One run: how many calls, how many receipts and accounts they draw from, closes per thousand calls, the first day, and the calls that
 // come before the drawn ones.
-#[derive(Drop)]
+#[derive(Clone, Copy)]
 pub struct Plan {
     pub seed: u64,
     pub calls: u64,

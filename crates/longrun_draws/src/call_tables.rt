@@ -2,7 +2,7 @@
 use ledger_book::{ANSWER_LENGTH, CALL_LENGTH, MOST_CALLS, plus, product};
 
 // How many bytes of each buffer it lends.
-#[derive(Drop)]
+#[derive(Clone, Copy)]
 pub struct CallTable {
     pub image_length: u64,
     pub calls_length: u64,

@@ -1,4 +1,6 @@
 // What the long runs draw from a seed: numbers, parties, prices, premiums and weights, pay-ins and take-outs; and money that is moved from where a lot holds it.
+#![tactic(auto)]
+
 mod call_tables;
 mod choices;
 mod draws;

@@ -5,7 +5,7 @@ use ledger_book::{
 };
 
 // A call by its fields, with the lengths of the buffers that it lends. `basis` is a premium where a receipt is registered.
-#[derive(Drop)]
+#[derive(Clone, Copy)]
 pub struct Request {
     pub kind: u64,
     pub account: u64,

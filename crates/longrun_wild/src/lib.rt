@@ -1,5 +1,7 @@
 // What no desk would do: calls with odd fields or buffers, and copies of a valid image with a field out of place, with what a lot holds
 // elsewhere, or with a total about its limit.
+#![tactic(auto)]
+
 mod damage;
 mod misplaced;
 mod odd;
