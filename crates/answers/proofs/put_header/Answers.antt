@@ -25,4 +25,4 @@ returns c =
     (run_behind s 0 counted (le_bytes 4 answer_header) 4 refl
     (run_behind s 0 start (le_bytes 2 c.args.count) 2 refl (c.put_run.ensures ∙ ap (λ (p : ℕ). sets s 0 (single p)) phase) c.put_u16.ensures)
     c.put_u32.ensures)
-    (c.put_u64.ensures ∙ ap (λ (t : Fen). sets c.put_u32.new.0 8 (le_bytes 8 t.0)) c.total_in-total.ensures)
+    (c.put_u64.ensures ∙ ap (λ (t : Fen). sets c.put_u32.new.s 8 (le_bytes 8 t.0)) c.total_in-total.ensures)

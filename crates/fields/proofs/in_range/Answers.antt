@@ -2,6 +2,8 @@ use mathlib.Core.List.{[], ◌∷◌}
 use mathlib.Core.Logic.{⊎_elim, inl}
 use mathlib.Core.Path.{◌≡◌, sym, ap, refl}
 use native.Mathlib.Omega.{arith}
+use Rattle.std.proofs.Common.{ne_eqb}
+use types.Run.{OneOf}
 use mir.Syntax.{w32}
 use mir.Val.{to_z, of_z}
 use mir.Facts.{to_z-of_z}
@@ -10,7 +12,7 @@ use Rattle.rules.specs.Numbers.{brackets}
 use Rattle.rules.specs.Laws.Arms.{at_run, no_key, above}
 use Rattle.fields.proofs.UsedFields.{in_row, named_lot, left_lot}
 use Rattle.fields.proofs.in_range.Goals as goal
-use Rattle.fields.proofs.in_range.Goals.{Start}
+use Rattle.fields.proofs.in_range.Goals.{Start, in-5-1, in_default+else-kind-lt1+else-kind-lt3+then-kind-lt9}
 
 -- the basis as the machine holds it
 kept : (c : Start) → to_z w32 (of_z w32 c.args.c.basis) ≡ c.args.c.basis
@@ -24,7 +26,7 @@ returns-in-3 c =
       c.is_weight.ensures,
       kept c.before.before.before.before.before,
     )
-    (in_row c.args.c (ap brackets (sym c.in-3.keys1)))
+    (in_row c.args.c (ap brackets (sym c.in-3.is)))
 
 pub returns-in-4 : goal.returns-in-4
 returns-in-4 c =
@@ -36,51 +38,50 @@ returns-in-4 c =
       kept c.before.before.before.before.before.before,
     )
     (in_row c.args.c
-    (ap brackets (sym c.in-3.keys2)))
+    (ap brackets (sym c.in-4.is)))
 
 pub returns-in-6 : goal.returns-in-6
 returns-in-6 c =
     rw (c.names_lot-in-6.ensures, c.is_price.ensures)
-    (in_row c.args.c (ap brackets (sym c.in-3.keys4)))
+    (in_row c.args.c (ap brackets (sym c.in-6.is)))
 
 pub returns-in-9 : goal.returns-in-9
 returns-in-9 c =
     rw (c.is_contract-in-9.ensures, c.is_ask.ensures)
-    (in_row c.args.c (ap brackets (sym c.in-3.keys5)))
+    (in_row c.args.c (ap brackets (sym c.in-9.is)))
 
 pub returns-in-13 : goal.returns-in-13
 returns-in-13 c =
     rw (c.names_lot-in-13.ensures, c.is_amount.ensures)
-    (in_row c.args.c (ap brackets (sym c.in-3.keys6)))
+    (in_row c.args.c (ap brackets (sym c.in-13.is)))
 
 pub returns-in-1 : goal.returns-in-1
 returns-in-1 c =
     rw (c.is_account.ensures, c.is_amount-in-1.ensures)
     (in_row c.args.c
-    (at_run brackets 1 2 (refl, (refl, tt)) c.if-kind-lt1.false c.if-kind-lt3.true))
+    (at_run brackets 1 2 {n = c.args.c.kind} (refl, (refl, tt)) (omega arith) (omega arith)))
 
 pub returns-in_default : goal.returns-in_default
-returns-in_default c = in_row c.args.c (at_run brackets 0 1 (refl, tt) (omega arith) c.if-kind-lt1.true)
+returns-in_default c = in_row c.args.c (at_run brackets 0 1 {n = c.args.c.kind} (refl, tt) (omega arith) (omega arith))
 
 pub returns-in_default-2 : goal.returns-in_default-2
 returns-in_default-2 c =
     let a = c.args.c in
-    let o = c.in-3.rest in
     in_row a {fs = []}
     (simp (
-      above a.kind 9 c.if-kind-lt9.false,
-      no_key _ (5 ∷ 10 ∷ 12 ∷ 14 ∷ []) o.0.0.0.1,
-      no_key _ (9 ∷ []) o.0.1,
-      no_key _ (13 ∷ []) o.1,
+      above a.kind 9 (omega arith),
+      ne_eqb a.kind 9 (omega arith),
+      no_key a.kind (5 ∷ 10 ∷ 12 ∷ 14 ∷ []) (assumption c),
+      ne_eqb a.kind 13 (omega arith),
     ))
 
 pub returns-in-5 : goal.returns-in-5
 returns-in-5 c =
     rw c.names_lot-in-5.ensures
     (in_row c.args.c
-    (⊎_elim
-    (λ w. named_lot _ w.keys3)
-    (λ w.
-    let o = w.0.rest in
-    left_lot _ w.2.left o.0.0.0.0.0.1 o.0.0.0.0.1 (λ e. o.0.0.0.1 (inl e)) o.0.0.1 w.3.taken)
-    c.in-3.branch))
+    (elim c.in-5-1.branch [
+      in-5-1 w ↦ named_lot c.args.c.kind (assumption w)
+    | in_default+else-kind-lt1+else-kind-lt3+then-kind-lt9 w ↦
+        let lots : OneOf (5 ∷ 10 ∷ 12 ∷ 14 ∷ []) c.args.c.kind → ⊥ = assumption w in
+        left_lot c.args.c.kind (omega arith) (omega arith) (omega arith) (λ e. lots (inl e)) (omega arith) (omega arith)
+    ]))
