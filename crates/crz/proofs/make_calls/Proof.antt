@@ -335,7 +335,7 @@ module _ {M : Type 1} {𝓤 : Ura M} (𝓛 : Logic 𝓤) (mem : Memory → SProp
         answers-fit = subst (λ (j : ℕ). j < 2 ^ 64) (sym la) ga.0
 
         own-long : length (own av i) ≡ answer_length
-        own-long = own_is i av within
+        own_long = own_is i av within
 
         own-fits : length (own av i) < 2 ^ 64
         own-fits = omega (arith, own-long)

@@ -1,0 +1,27 @@
+use mathlib.Core.List.{List}
+use mathlib.Core.Path.{ap, ◌∙◌}
+use native.Mathlib.Omega.{arith}
+use Rattle.zone.specs.declared.Account.{Account}
+use Rattle.zone.specs.Parts.{with_accounts}
+use Rattle.image.specs.Image.{decode, encode}
+use Rattle.events.specs.Laws.Changed.{debit_changed}
+use borrow.Author.Rules.{rules}
+use Rattle.events.proofs.money.debit_from.Goals as goal
+
+pub change-requires : goal.change-requires
+change-requires c = (
+  c.requires.0,
+  record {
+    place = c.requires.2;
+    added_in = λ p. omega arith;
+    held_in = λ p. omega arith;
+    free = λ p. omega (arith, c.requires.3 p);
+    frozen = λ p. omega arith;
+    all = c.requires.1.money;
+  },
+)
+
+pub returns : goal.returns
+returns c =
+    let s = c.args.image.now in
+    c.change.ensures ∙ ap (λ (l : List Account). encode (with_accounts (decode s) l)) (debit_changed c.args.a c.args.n (decode s).accounts)

@@ -1,0 +1,28 @@
+use mathlib.Core.List.{List}
+use mathlib.Core.Path.{ap, ◌∙◌}
+use native.Mathlib.Omega.{arith}
+use Rattle.zone.specs.declared.Account.{Account}
+use Rattle.zone.specs.Parts.{with_accounts}
+use Rattle.image.specs.Image.{decode, encode}
+use Rattle.rules.specs.Laws.Moves.{at_most}
+use Rattle.events.specs.Laws.Changed.{freeze_changed}
+use borrow.Author.Rules.{rules}
+use Rattle.events.proofs.money.freeze_from.Goals as goal
+
+pub change-requires : goal.change-requires
+change-requires c = (
+  c.requires.0,
+  record {
+    place = c.requires.2;
+    added_in = λ p. omega arith;
+    held_in = λ p. omega (arith, c.requires.3 p, at_most (decode c.args.image.now).accounts c.args.a, c.requires.1.money);
+    free = λ p. omega (arith, c.requires.3 p);
+    frozen = λ p. omega arith;
+    all = c.requires.1.money;
+  },
+)
+
+pub returns : goal.returns
+returns c =
+    let s = c.args.image.now in
+    c.change.ensures ∙ ap (λ (l : List Account). encode (with_accounts (decode s) l)) (freeze_changed c.args.a c.args.n (decode s).accounts)

@@ -1,0 +1,12 @@
+use borrow.Author.Tests.{lt-ltb, le-ltb}
+use Rattle.shortfalls.specs.Shortfalls.{excess}
+use borrow.Author.Rules.{rules}
+use Rattle.shortfalls.proofs.excess.Goals as goal
+
+pub returns-then-m-n : goal.returns-then-m-n
+unfolding excess
+returns-then-m-n c = rw (lt-ltb _ _ c.if-m-n.true)
+
+pub returns-else-m-n : goal.returns-else-m-n
+unfolding excess
+returns-else-m-n c = rw (le-ltb _ _ c.if-m-n.false)
