@@ -1,0 +1,8 @@
+use mathlib.Core.Path.{refl}
+use Rattle.rules.specs.Numbers.{not_above}
+use borrow.Author.Rules.{rules}
+use Rattle.numbers.proofs.not_above.Goals as goal
+
+pub returns : goal.returns
+unfolding not_above
+returns c = refl
