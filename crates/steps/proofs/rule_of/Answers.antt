@@ -13,55 +13,55 @@ of-kind : (c : Start) (j : ℕ) → c.args.c.kind ≡ j →
 of-kind c j e = ap (λ (k : ℕ). rule_of k c.args.v c.args.c c.args.n c.args.f) (sym e)
 
 pub limit_bid-requires : goal.limit_bid-requires
-limit_bid-requires c = (c.requires.0, c.requires.1.price c.in-3.keys4)
+limit_bid-requires c = (c.requires.0, c.requires.1.price c.in-6.is)
 
 pub invoice_at-requires : goal.invoice_at-requires
-invoice_at-requires c = c.requires.1.invoice c.in-3.keys9
+invoice_at-requires c = c.requires.1.invoice c.in-13.is
 
 pub confirm_at-requires : goal.confirm_at-requires
-confirm_at-requires c = let p = c.requires.1.pending c.in-3.keys10 in (c.requires.0.valid, p.0, p.1)
+confirm_at-requires c = let p = c.requires.1.pending c.in-14.is in (c.requires.0.valid, p.0, p.1)
 
 pub returns-in-3 : goal.returns-in-3
 unfolding rule_of
-returns-in-3 c = c.register_at.ensures ∙ of-kind (goal.at.returns-in-3 c).Start 3 c.in-3.keys1
+returns-in-3 c = c.register_at.ensures ∙ of-kind (goal.at.returns-in-3 c).Start 3 c.in-3.is
 
 pub returns-in-4 : goal.returns-in-4
 unfolding rule_of
-returns-in-4 c = c.list_at.ensures ∙ of-kind (goal.at.returns-in-4 c).Start 4 c.in-3.keys2
+returns-in-4 c = c.list_at.ensures ∙ of-kind (goal.at.returns-in-4 c).Start 4 c.in-4.is
 
 pub returns-in-5 : goal.returns-in-5
 unfolding rule_of withdraw_listing
-returns-in-5 c = c.end_listing.ensures ∙ of-kind (goal.at.returns-in-5 c).Start 5 c.in-3.keys3
+returns-in-5 c = c.end_listing.ensures ∙ of-kind (goal.at.returns-in-5 c).Start 5 c.in-5.is
 
 pub returns-in-6 : goal.returns-in-6
 unfolding rule_of
-returns-in-6 c = c.limit_bid.ensures ∙ of-kind (goal.at.returns-in-6 c).Start 6 c.in-3.keys4
+returns-in-6 c = c.limit_bid.ensures ∙ of-kind (goal.at.returns-in-6 c).Start 6 c.in-6.is
 
 pub returns-in-7 : goal.returns-in-7
 unfolding rule_of
-returns-in-7 c = c.market_bid.ensures ∙ of-kind (goal.at.returns-in-7 c).Start 7 c.in-3.keys5
+returns-in-7 c = c.market_bid.ensures ∙ of-kind (goal.at.returns-in-7 c).Start 7 c.in-7.is
 
 pub returns-in-8 : goal.returns-in-8
 unfolding rule_of
-returns-in-8 c = c.withdraw_bid.ensures ∙ of-kind (goal.at.returns-in-8 c).Start 8 c.in-3.keys6
+returns-in-8 c = c.withdraw_bid.ensures ∙ of-kind (goal.at.returns-in-8 c).Start 8 c.in-8.is
 
 pub returns-in-10 : goal.returns-in-10
 unfolding rule_of
-returns-in-10 c = c.lodge_at.ensures ∙ of-kind (goal.at.returns-in-10 c).Start 10 c.in-3.keys7
+returns-in-10 c = c.lodge_at.ensures ∙ of-kind (goal.at.returns-in-10 c).Start 10 c.in-10.is
 
 pub returns-in-12 : goal.returns-in-12
 unfolding rule_of
-returns-in-12 c = c.pay_first.ensures ∙ of-kind (goal.at.returns-in-12 c).Start 12 c.in-3.keys8
+returns-in-12 c = c.pay_first.ensures ∙ of-kind (goal.at.returns-in-12 c).Start 12 c.in-12.is
 
 pub returns-in-13 : goal.returns-in-13
 unfolding rule_of
-returns-in-13 c = c.invoice_at.ensures ∙ of-kind (goal.at.returns-in-13 c).Start 13 c.in-3.keys9
+returns-in-13 c = c.invoice_at.ensures ∙ of-kind (goal.at.returns-in-13 c).Start 13 c.in-13.is
 
 pub returns-in-14 : goal.returns-in-14
 unfolding rule_of
-returns-in-14 c = c.confirm_at.ensures ∙ of-kind (goal.at.returns-in-14 c).Start 14 c.in-3.keys10
+returns-in-14 c = c.confirm_at.ensures ∙ of-kind (goal.at.returns-in-14 c).Start 14 c.in-14.is
 
 pub returns-in_default : goal.returns-in_default
 returns-in_default c =
     let a = c.args in
-    sym (no_event a.v a.c a.n a.f a.c.kind c.in-3.rest c.requires.2)
+    sym (no_event a.v a.c a.n a.f a.c.kind (assumption c) c.requires.2)
