@@ -50,8 +50,7 @@ pub fn make_call(image: &mut [u8], valid: bool, c: Call, answer: &mut [u8]) -> u
 }
 
 // Makes a call on an image. Returns 0 and writes image and answer, or a refusal's number: 1 writes nothing, any other fills the answer.
-#[unsafe(no_mangle)]
-pub extern "C" fn crz_call(image: &mut [u8], call: &[u8], answer: &mut [u8]) -> u32
+pub fn crz_call(image: &mut [u8], call: &[u8], answer: &mut [u8]) -> u32
     ensures { (result, image.new, answer.new) ≡ call_entry image.old call.now answer.old }
 {
     let valid = verdict::image_ok(image);
@@ -98,8 +97,7 @@ fn table_fits(calls: usize, answers: usize) -> bool
 
 // Makes a table of calls on an image and returns 0, with the number of each in its own answer; or 14, by the lengths alone, and leaves all
 // buffers as they are.
-#[unsafe(no_mangle)]
-pub extern "C" fn crz_table(image: &mut [u8], calls: &[u8], answers: &mut [u8]) -> u32
+pub fn crz_table(image: &mut [u8], calls: &[u8], answers: &mut [u8]) -> u32
     ensures { (result, image.new, answers.new) ≡ table_entry image.old calls.now answers.old }
 {
     if !table_fits(calls.len(), answers.len()) {
@@ -115,8 +113,7 @@ pub extern "C" fn crz_table(image: &mut [u8], calls: &[u8], answers: &mut [u8]) 
 
 // Writes what each account has to pay in before the morning close and returns 0; or 1 where the figures are too short, then 2 where the
 // image is not valid, and writes nothing.
-#[unsafe(no_mangle)]
-pub extern "C" fn crz_shortfalls(image: &[u8], figures: &mut [u8]) -> u32
+pub fn crz_shortfalls(image: &[u8], figures: &mut [u8]) -> u32
     ensures { (result, image.now, figures.new) ≡ shortfalls_entry image.now figures.old }
 {
     if figures.len() < FIGURES_LENGTH {
@@ -132,8 +129,7 @@ pub extern "C" fn crz_shortfalls(image: &[u8], figures: &mut [u8]) -> u32
 // ── A fresh image ───────────────────────────────────────────────────────────────────────────────
 
 // Writes a fresh image and returns 0; a buffer of another length than an image's is left as it is, with 2.
-#[unsafe(no_mangle)]
-pub extern "C" fn crz_fresh(image: &mut [u8]) -> u32
+pub fn crz_fresh(image: &mut [u8]) -> u32
     ensures { (result, image.new) ≡ fresh_entry image.old }
 {
     if image.len() != IMAGE_LENGTH {

@@ -3,12 +3,8 @@ use native.Mathlib.Omega.{arith}
 use Rattle.answers.specs.Buffers.{answer_length}
 use Rattle.crz.specs.CallTable.{table_fits}
 use Rattle.crz.specs.Laws.CallTable.{room_for}
-use Rattle.crz.proofs.table_fits.Statement.{statement}
-use Rattle.crz.proofs.table_fits.Tie as tie
+use Rattle.crz.proofs.table_fits.Goals as goal
 
-returns : tie.Need-returns
+pub returns : goal.returns
 unfolding table_fits
 returns c = rw (room_for _ answer_length _ (omega arith))
-
-pub table-fits-spec : {M : Type 1} → statement M
-table-fits-spec = tie.close (tie.spec returns)

@@ -1,0 +1,26 @@
+-- One call more, on its own part of the answers; the last one leaves what all of them leave.
+use Rattle.std.proofs.Common.{◌≡◌, suc, ℕ, ◌+◌, ◌-◌, ◌*◌, ◌≤◌, length, take, drop, List, ◌∙◌, arith, length-drop, length-take-le}
+use Rattle.answers.specs.Buffers.{answer_length}
+use Rattle.crz.specs.Laws.CallTable.{MadeSoFar, one_made, all_made}
+use Rattle.crz.proofs.make_calls.Goals as goal
+
+pub loop-i-preserved : goal.loop-i-preserved
+loop-i-preserved c =
+    let s = c.args in
+    let l = c.loop-i in
+    let ahead : List ℕ = drop (l.i * 1040) l.answers in
+    let part : l.i * 1040 + 1040 - l.i * 1040 ≡ 1040 = omega arith in
+    let room : l.i * answer_length + answer_length ≤ length l.answers = omega arith in
+    let left : 1040 ≤ length ahead = simp length-drop (omega arith) in
+    let own : length c.make_call.new.answer ≡ answer_length = (rw part at c.make_call.auto.answer) ∙ length-take-le 1040 ahead left in
+    let next : suc l.i ≡ l.i + 1 = omega arith in (
+      omega arith,
+      rw (part, ← next)
+      (one_made s.calls.now s.image.now s.answers.now l.i c.loop-i-test.true room l.invariant.1 own (rw part at c.make_call.ensures)),
+    )
+
+pub returns : goal.returns
+returns c =
+    let s = c.args in
+    let e : c.loop-i.i ≡ length s.calls.now = omega arith in
+    all_made s.calls.now s.image.now s.answers.now (rw e at c.loop-i.invariant.1)
