@@ -143,7 +143,7 @@ calls_made : {start : List ℕ} {list : List Exchange} (calls : List (List ℕ))
     → OneByOne start list image → OneByOne start (calls_of_table calls (in_turn call_entry image calls answers).1 list) (in_turn call_entry image calls answers).0
 unfolding in_turn calls_of_table
 calls_made [] answers h m = m
-calls_made (call ∷ calls) {image} answers h m =
+calls_made {start} {list} (call ∷ calls) {image} answers h m =
     let own : List ℕ = take answer_length answers in
     let r : Return = call_entry image call own in
     let rest = in_turn call_entry r.1 calls (drop answer_length answers) in
@@ -152,7 +152,7 @@ calls_made (call ∷ calls) {image} answers h m =
       take_at r.2 rest.1 answer_length long,
       drop_at r.2 rest.1 answer_length long,
       number_first image call own r.0 r.1 r.2 refl (omega (arith, own_long (length calls) answers h)),
-    ) (calls_made calls (drop answer_length answers) (room_behind (length calls) answers h) (then m call own r.0 r.1 r.2 refl))
+    ) (calls_made {list = record { call = call; number = r.0; answer = r.2 } ∷ list} calls (drop answer_length answers) (room_behind (length calls) answers h) (then m call own r.0 r.1 r.2 refl))
 
 -- a table's records are as many as its lengths say
 records_long : (calls : List ℕ) → length (call_records calls) ≡ call_count calls
