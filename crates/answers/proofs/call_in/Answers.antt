@@ -11,10 +11,10 @@ use Rattle.answers.specs.Buffers.{call_in}
 use borrow.Author.Rules.{rules}
 use Rattle.answers.proofs.call_in.Goals as goal
 
-call-eq : {k a r q d s s' n n' : ℕ} {b b' : ℤ} {w w' : ℕ} → s ≡ s' → n ≡ n' → b ≡ b' → w ≡ w' →
+call_eq : {k a r q d s s' n n' : ℕ} {b b' : ℤ} {w w' : ℕ} → s ≡ s' → n ≡ n' → b ≡ b' → w ≡ w' →
     ◌≡◌ {A = Call} (record { kind = k; account = a; receipt = r; contract = q; days = d; spare = s; amount = n; basis = b; weight = w })
     (record { kind = k; account = a; receipt = r; contract = q; days = d; spare = s'; amount = n'; basis = b'; weight = w' })
-call-eq e1 e2 e3 e4 = cc
+call_eq e1 e2 e3 e4 = cc
 
 pub overflow_mul-spare : goal.overflow_mul-spare
 overflow_mul-spare c = omega (arith, c.wide.ensures.1)
@@ -25,7 +25,7 @@ overflow_add-spare c = omega (arith, c.wide.ensures.1)
 pub returns : goal.returns
 unfolding call_in le_at
 returns c =
-    call-eq
+    call_eq
     (omega (arith, le_at_add 2 1 c.args.s.now 5, c.get_u16.ensures, c.wide.ensures.0))
     c.get_u64-amount.ensures
     (to_z-of_z {w = w32} {z = c.get_i32-basis.result} (record { sfits = c.get_i32-basis.type_inv }) ∙ c.get_i32-basis.ensures)

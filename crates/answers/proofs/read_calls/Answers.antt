@@ -18,8 +18,8 @@ ends : (i n : ℕ) → i < n / call_length → i * call_length + call_length ≤
 ends i n h = omega (arith, div-mul-le_self n call_length)
 
 -- the slice of record i
-record-at : (i : ℕ) (s : List ℕ) → take (i * call_length + call_length - i * call_length) (drop (i * call_length) s) ≡ run_at 0 call_length s i
-record-at i s = part_wide (i * call_length) call_length s ∙ ap (λ (at : ℕ). take call_length (drop at s)) (sym (zero-add (i * call_length)))
+record_at : (i : ℕ) (s : List ℕ) → take (i * call_length + call_length - i * call_length) (drop (i * call_length) s) ≡ run_at 0 call_length s i
+record_at i s = part_wide (i * call_length) call_length s ∙ ap (λ (at : ℕ). take call_length (drop at s)) (sym (zero-add (i * call_length)))
 
 pub loop-i-init : goal.loop-i-init
 unfolding table
@@ -55,7 +55,7 @@ loop-i-preserved c =
       omega arith,
       length-set l.calls l.i _ ∙ l.invariant.1,
       rw (table_suc, one, take-suc-set l.calls l.i c.read_call-c.result inside, l.invariant.2)
-          (ap (λ (x : Call). table l.i (λ k. call_or_none (run_at 0 call_length s k)) ++ (x ∷ [])) (c.read_call-c.ensures ∙ ap call_or_none (record-at l.i s))),
+          (ap (λ (x : Call). table l.i (λ k. call_or_none (run_at 0 call_length s k)) ++ (x ∷ [])) (c.read_call-c.ensures ∙ ap call_or_none (record_at l.i s))),
     )
 
 pub returns : goal.returns

@@ -16,9 +16,9 @@ use Rattle.calls.specs.Laws.Good.{cleared}
 use borrow.Author.Rules.{rules}
 use Rattle.calls.proofs.end_call.Goals as goal
 
-as-was : (c : Call) (z : Zone) → (c.kind ≡ 11 → ⊥) → (c.kind ≡ 15 → ⊥) → z ≡ ending c z
+as_was : (c : Call) (z : Zone) → (c.kind ≡ 11 → ⊥) → (c.kind ≡ 15 → ⊥) → z ≡ ending c z
 unfolding ending
-as-was c z p q = rw (ne_eqb _ 11 p, ne_eqb _ 15 q)
+as_was c z p q = rw (ne_eqb _ 11 p, ne_eqb _ 15 q)
 
 pub day_in-day-requires : goal.day_in-day-requires
 day_in-day-requires c = same_long _ c.requires.0
@@ -50,4 +50,4 @@ returns-in-15 c =
     ∙ rw (c.day_in-day.ensures, c.in-15.is)
 
 pub returns-in_default : goal.returns-in_default
-returns-in_default c = c.requires.0 ∙ ap encode (as-was c.args.c _ (omega arith) (omega arith))
+returns-in_default c = c.requires.0 ∙ ap encode (as_was c.args.c _ (omega arith) (omega arith))

@@ -36,14 +36,14 @@ good c = good_decode _ c.requires.1
 passed : (c : Start) → PassedAt c.args.c (decode c.args.image.now) c.args.c.receipt
 passed c = passed_at (decode c.args.image.now) c.args.c c.requires.2
 
-paid-in : (c : In-1) → MoneyIn (decode c.args.image.now) c.args.c
-paid-in c = money_in _ c.args.c (passed c.before.before.before) c.in-1.is
+paid_in : (c : In-1) → MoneyIn (decode c.args.image.now) c.args.c
+paid_in c = money_in _ c.args.c (passed c.before.before.before) c.in-1.is
 
 taken_out : (c : In-2) → MoneyOut (decode c.args.image.now) c.args.c
 taken_out c = money_out _ c.args.c (passed c.before.before.before) c.in-2.is
 
-contract-in : (c : In-9) → InRange 1 contract_count c.args.c.contract
-contract-in c = quoted_contract _ c.args.c (passed c.before.before.before) c.in-9.is
+contract_in : (c : In-9) → InRange 1 contract_count c.args.c.contract
+contract_in c = quoted_contract _ c.args.c (passed c.before.before.before) c.in-9.is
 
 -- the total that was read is the zone's
 total_here : (c : After-total_in-total) → c.total_in-total.result.0 ≡ (decode c.args.image.now).total.0
@@ -58,7 +58,7 @@ credited c =
     let l = (decode s).accounts in
     let a = c.args.c.account in
     let n : Fen = fen c.args.c.amount in
-    let M = paid-in c.before.before in
+    let M = paid_in c.before.before in
     moved (valid_fits _ c.requires.1) c.credit_to.ensures (length_credit l a n ∙ (decode_sized s).accounts)
     (omega (arith, all_credit l a n M.account.low (rw (decode_sized s).accounts M.account.high), M.limit, (good c.before.before.before.before.before).total))
 
@@ -81,18 +81,18 @@ ask_in n h = go (eqb n 0) refl h
     go true e h = omega (arith, eqb-true n 0 e)
     go false e h = price_at_most n h
 
-as-was : (c : Call) (z : Zone) → (c.kind ≡ 1 → ⊥) → (c.kind ≡ 2 → ⊥) → (c.kind ≡ 9 → ⊥) → z ≡ opening c z
+as_was : (c : Call) (z : Zone) → (c.kind ≡ 1 → ⊥) → (c.kind ≡ 2 → ⊥) → (c.kind ≡ 9 → ⊥) → z ≡ opening c z
 unfolding opening
-as-was c z p q r = rw (ne_eqb _ 1 p, ne_eqb _ 2 q, ne_eqb _ 9 r)
+as_was c z p q r = rw (ne_eqb _ 1 p, ne_eqb _ 2 q, ne_eqb _ 9 r)
 
 pub total_in-total-requires : goal.total_in-total-requires
 total_in-total-requires c = same_long _ c.requires.0
 
 pub credit_to-requires : goal.credit_to-requires
-credit_to-requires c = let M = paid-in (goal.at.credit_to-requires c).In-1 in (c.requires.0, valid_fits _ c.requires.1, M.account.high, (λ _. omega (arith, M.amount)))
+credit_to-requires c = let M = paid_in (goal.at.credit_to-requires c).In-1 in (c.requires.0, valid_fits _ c.requires.1, M.account.high, (λ _. omega (arith, M.amount)))
 
 pub overflow_add-total : goal.overflow_add-total
-overflow_add-total c = omega (arith, total_here (goal.at.overflow_add-total c).After-total_in-total, (paid-in (goal.at.overflow_add-total c).In-1).limit)
+overflow_add-total c = omega (arith, total_here (goal.at.overflow_add-total c).After-total_in-total, (paid_in (goal.at.overflow_add-total c).In-1).limit)
 
 pub total-requires : goal.total-requires
 total-requires c = let M = credited (goal.at.total-requires c).After-credit_to in encoded _ _ M.is M.zone
@@ -109,7 +109,7 @@ pub total-requires-in-2 : goal.total-requires-in-2
 total-requires-in-2 c = let M = debited (goal.at.total-requires-in-2 c).After-debit_from in encoded _ _ M.is M.zone
 
 pub overflow_sub-k : goal.overflow_sub-k
-overflow_sub-k c = (contract-in (goal.at.overflow_sub-k c).In-9).low
+overflow_sub-k c = (contract_in (goal.at.overflow_sub-k c).In-9).low
 
 pub overflow_cast-c : goal.overflow_cast-c
 overflow_cast-c c =
@@ -117,7 +117,7 @@ overflow_cast-c c =
     omega (arith, ask_in a.amount (ranges (as_kind a 9 c.in-9.is (passed (goal.at.overflow_cast-c c).Start))).1.0)
 
 pub ask-requires : goal.ask-requires
-ask-requires c = (c.requires.0, omega (arith, contract-in (goal.at.ask-requires c).In-9))
+ask-requires c = (c.requires.0, omega (arith, contract_in (goal.at.ask-requires c).In-9))
 
 pub returns-in-1 : goal.returns-in-1
 unfolding opening decode
@@ -138,8 +138,8 @@ unfolding opening
 returns-in-9 c =
     let z = decode c.args.image.now in
     c.ask.ensures
-    ∙ ap (λ (l : List YuanPerTonne). encode (with_asks z l)) (sym (put_index z.asks c.args.c.contract _ (contract-in (goal.at.returns-in-9 c).In-9).low))
+    ∙ ap (λ (l : List YuanPerTonne). encode (with_asks z l)) (sym (put_index z.asks c.args.c.contract _ (contract_in (goal.at.returns-in-9 c).In-9).low))
     ∙ rw c.in-9.is
 
 pub returns-in_default : goal.returns-in_default
-returns-in_default c = c.requires.0 ∙ ap encode (as-was c.args.c _ (omega arith) (omega arith) (omega arith))
+returns-in_default c = c.requires.0 ∙ ap encode (as_was c.args.c _ (omega arith) (omega arith) (omega arith))

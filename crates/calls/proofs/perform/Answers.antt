@@ -33,37 +33,37 @@ use Rattle.calls.proofs.perform.Goals as goal
 use Rattle.calls.proofs.perform.Goals.{Start, After-open_call, Joined-sweeps, After-end_call, then-sweeps, else-sweeps}
 
 -- ── Zones on the way ───────────────────────────────────────────────────────────────────────────
-abbrev before-it : (c : Start) → Zone
-before-it c = decode c.args.image.now
+abbrev before_it : (c : Start) → Zone
+before_it c = decode c.args.image.now
 
-accepted : (c : Start) → AcceptedAs (before-it c) c.args.c c.args.at
-accepted c = accepted_as (before-it c) c.args.c c.args.at c.requires.1
+accepted : (c : Start) → AcceptedAs (before_it c) c.args.c c.args.at
+accepted c = accepted_as (before_it c) c.args.c c.args.at c.requires.1
 
-good : (c : Start) → Good (before-it c)
+good : (c : Start) → Good (before_it c)
 good c = good_decode _ (valid_decode _ c.requires.0)
 
-passed : (c : Start) → PassedAt c.args.c (before-it c) c.args.c.receipt
-passed c = passed_at (before-it c) c.args.c (accepted c).number
+passed : (c : Start) → PassedAt c.args.c (before_it c) c.args.c.receipt
+passed c = passed_at (before_it c) c.args.c (accepted c).number
 
-good-opened : (c : Start) → Good (opening c.args.c (before-it c))
-good-opened c = opening_good (before-it c) (good c) c.args.c (passed c)
+good_opened : (c : Start) → Good (opening c.args.c (before_it c))
+good_opened c = opening_good (before_it c) (good c) c.args.c (passed c)
 
 -- what the lots leave
 abbrev lots : (c : Start) → Done
-lots c = at_lots (before-it c) c.args.c
+lots c = at_lots (before_it c) c.args.c
 
-good-lots : (c : Start) → Good (lots c).zone
-good-lots c = last_good (sweep_chain c.args.c (lot_count c.args.c) (first_lot c.args.c) 1 _ (path_of (before-it c) c.args.c (passed c))) (good-opened c)
+good_lots : (c : Start) → Good (lots c).zone
+good_lots c = last_good (sweep_chain c.args.c (lot_count c.args.c) (first_lot c.args.c) 1 _ (path_of (before_it c) c.args.c (passed c))) (good_opened c)
 
-at-its-receipt : (c : Start) → sweeps c.args.c.kind ≡ false → AtReceipt c.args.c (before-it c)
-at-its-receipt c s = at_receipt (before-it c) (good c) c.args.c (passed c) s
+at_its_receipt : (c : Start) → sweeps c.args.c.kind ≡ false → AtReceipt c.args.c (before_it c)
+at_its_receipt c s = at_receipt (before_it c) (good c) c.args.c (passed c) s
 
-its_own : (c : Start) → sweeps c.args.c.kind ≡ false → lots c ≡ after_lot (opening c.args.c (before-it c)) c.args.at
-its_own c s = (at-its-receipt c s).lots ∙ ap (after_lot (opening c.args.c (before-it c))) (accepted c).rule
+its_own : (c : Start) → sweeps c.args.c.kind ≡ false → lots c ≡ after_lot (opening c.args.c (before_it c)) c.args.at
+its_own c s = (at_its_receipt c s).lots ∙ ap (after_lot (opening c.args.c (before_it c))) (accepted c).rule
 
 -- ── Image and answer on the way ────────────────────────────────────────────────────────────────
 opened : (c : After-open_call) → Of c.open_call.new.image (opening c.args.c (decode c.args.image.now))
-opened c = bytes_of _ _ c.open_call.ensures (good-opened c.before.before.before.before.before)
+opened c = bytes_of _ _ c.open_call.ensures (good_opened c.before.before.before.before.before)
 
 record Left (image : List ℕ) (made : ℕ × List ℕ) (answer : List ℕ) (d : Done) : Type 0 where
   zone : image ≡ encode d.zone
@@ -71,7 +71,7 @@ record Left (image : List ℕ) (made : ℕ × List ℕ) (answer : List ℕ) (d :
 
 left : (c : Joined-sweeps) → Left c.if-sweeps.image (c.if-sweeps.count, c.if-sweeps.answer) c.args.answer.now (lots c.before.before.before.before.before.before.before.before)
 left c =
-    let O = bytes_of _ _ c.open_call.ensures (good-opened c.before.before.before.before.before.before.before.before) in
+    let O = bytes_of _ _ c.open_call.ensures (good_opened c.before.before.before.before.before.before.before.before) in
     let answer = c.args.answer.now in
     elim c.if-sweeps.branch [
       then-sweeps w ↦
@@ -90,14 +90,14 @@ left c =
 
 -- as many entries as the lots have, and the answer as long as it was
 counted : (c : Joined-sweeps) → c.if-sweeps.count ≤ receipt_count
-counted c = omega (arith, ap (λ (s : ℕ × List ℕ). s.0) (left c).entries, at_lots_few (before-it c.before.before.before.before.before.before.before.before) c.args.c)
+counted c = omega (arith, ap (λ (s : ℕ × List ℕ). s.0) (left c).entries, at_lots_few (before_it c.before.before.before.before.before.before.before.before) c.args.c)
 
-still-long : (c : Joined-sweeps) → length c.if-sweeps.answer ≡ length c.args.answer.now
-still-long c = ap (λ (s : ℕ × List ℕ). length s.1) (left c).entries ∙ simp length-sets
+still_long : (c : Joined-sweeps) → length c.if-sweeps.answer ≡ length c.args.answer.now
+still_long c = ap (λ (s : ℕ × List ℕ). length s.1) (left c).entries ∙ simp length-sets
 
-performed : (c : After-end_call) → c.end_call.new.image ≡ encode (effect (before-it c.before.before.before.before.before.before.before.before.before.before) c.args.c).zone
+performed : (c : After-end_call) → c.end_call.new.image ≡ encode (effect (before_it c.before.before.before.before.before.before.before.before.before.before) c.args.c).zone
 unfolding effect
-performed c = c.end_call.ensures ∙ ap (λ (z : Zone). encode (ending c.args.c z)) (bytes_of _ _ (left c.before.before).zone (good-lots c.before.before.before.before.before.before.before.before.before.before)).zone
+performed c = c.end_call.ensures ∙ ap (λ (z : Zone). encode (ending c.args.c z)) (bytes_of _ _ (left c.before.before).zone (good_lots c.before.before.before.before.before.before.before.before.before.before)).zone
 
 pub open_call-requires : goal.open_call-requires
 open_call-requires c = (sym (encode_decode _ c.requires.0 (λ k. (c.slice_known-1.given k).fits)), valid_decode _ c.requires.0, (accepted (goal.at.open_call-requires c).Start).number)
@@ -108,20 +108,20 @@ sweep_lots-count-requires c = let O = opened (goal.at.sweep_lots-count-requires 
 pub post_one-count-requires : goal.post_one-count-requires
 post_one-count-requires c =
     let O = opened (goal.at.post_one-count-requires c).After-open_call in
-    let R = at-its-receipt (goal.at.post_one-count-requires c).Start (sym c.sweeps.ensures ∙ c.if-sweeps.false) in
+    let R = at_its_receipt (goal.at.post_one-count-requires c).Start (sym c.sweeps.ensures ∙ c.if-sweeps.false) in
     (O.encoded, rw O.zone (subst (CanPost _) (accepted (goal.at.post_one-count-requires c).Start).rule R.posts), c.requires.2)
 
 pub end_call-requires : goal.end_call-requires
-end_call-requires c = let L = left (goal.at.end_call-requires c).Joined-sweeps in let O = bytes_of _ _ L.zone (good-lots (goal.at.end_call-requires c).Start) in (O.encoded, O.fits)
+end_call-requires c = let L = left (goal.at.end_call-requires c).Joined-sweeps in let O = bytes_of _ _ L.zone (good_lots (goal.at.end_call-requires c).Start) in (O.encoded, O.fits)
 
 pub answer_order-requires : goal.answer_order-requires
-answer_order-requires c = (omega (arith, still-long (goal.at.answer_order-requires c).Joined-sweeps, c.requires.2), counted (goal.at.answer_order-requires c).Joined-sweeps)
+answer_order-requires c = (omega (arith, still_long (goal.at.answer_order-requires c).Joined-sweeps, c.requires.2), counted (goal.at.answer_order-requires c).Joined-sweeps)
 
 pub shape_of-image : goal.shape_of-image
 shape_of-image c = ap length (performed (goal.at.shape_of-image c).After-end_call) ∙ length_encode _ (taken_good (taken _ c.args.c (accepted (goal.at.shape_of-image c).Start).number) (good (goal.at.shape_of-image c).Start)).sized ∙ sym (valid_long _ c.requires.0)
 
 pub shape_of-answer : goal.shape_of-answer
-shape_of-answer c = ap length c.answer_order.ensures ∙ simp length-sets (still-long (goal.at.shape_of-answer c).Joined-sweeps)
+shape_of-answer c = ap length c.answer_order.ensures ∙ simp length-sets (still_long (goal.at.shape_of-answer c).Joined-sweeps)
 
 pub returns : goal.returns
 unfolding effect
@@ -134,5 +134,5 @@ returns c =
       same_listed (ap (λ (s : ℕ × List ℕ). s.0) L.entries ∙ sym (length_answer kind es))
           (c.answer_order.ensures
           ∙ ap (λ (s : ℕ × List ℕ). with_entries 0 (answer_order kind (entries_from 0 s.0 s.1)) s.1) L.entries
-          ∙ ordered_entries kind es answer (numbered_lots (before-it (goal.at.returns c).Start) c.args.c (good (goal.at.returns c).Start) (passed (goal.at.returns c).Start)) (at_lots_few (before-it (goal.at.returns c).Start) c.args.c) c.requires.2),
+          ∙ ordered_entries kind es answer (numbered_lots (before_it (goal.at.returns c).Start) c.args.c (good (goal.at.returns c).Start) (passed (goal.at.returns c).Start)) (at_lots_few (before_it (goal.at.returns c).Start) c.args.c) c.requires.2),
     )

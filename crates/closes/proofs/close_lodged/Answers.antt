@@ -39,8 +39,8 @@ lost : (c : After-receipt_record-2) →
     Begun c.args.image.now c.receipt_record-2.new.image (entry_of c.args.n 12 c.args.f.seller c.args.f.buyer deposit.0) (with_lot c.args.f Idle) (hold_from c.args.f.buyer c.deposit_per_receipt-held.result) c.deposit_per_receipt-held.result (hold_from 0 (fen 0))
 lost c = buyer_begun c.requires.0 c.receipt_record-2.ensures c.requires.1 (sym (tested c.before.before.before.before) ∙ c.if-has_money.false) c.deposit_per_receipt-held.ensures c.idle_record.ensures
 
-freed-2 : (c : After-release_to-2) → Moved c.receipt_record-2.new.image c.release_to-2.new.image (release c.args.f.buyer c.deposit_per_receipt-held.result (decode c.receipt_record-2.new.image).accounts)
-freed-2 c =
+freed_2 : (c : After-release_to-2) → Moved c.receipt_record-2.new.image c.release_to-2.new.image (release c.args.f.buyer c.deposit_per_receipt-held.result (decode c.receipt_record-2.new.image).accounts)
+freed_2 c =
     let B = lost c.before.before.before.before in
     released _ B.fits B.funds c.release_to-2.ensures
 
@@ -48,7 +48,7 @@ taken : (c : After-debit_from) →
     Moved c.receipt_record-2.new.image c.debit_from.new.image (debit c.args.f.buyer c.deposit_per_receipt-held.result (release c.args.f.buyer c.deposit_per_receipt-held.result (decode c.receipt_record-2.new.image).accounts))
 taken c =
     let B = lost c.before.before.before.before.before.before.before.before in
-    debited _ B.fits B.funds (freed-2 c.before.before.before.before) c.debit_from.ensures
+    debited _ B.fits B.funds (freed_2 c.before.before.before.before) c.debit_from.ensures
 
 -- ── Needs ──────────────────────────────────────────────────────────────────────────────────────
 pub overflow_sub-k : goal.overflow_sub-k
@@ -105,7 +105,7 @@ release_to-requires-2 c =
 pub debit_from-requires : goal.debit_from-requires
 debit_from-requires c =
     let B = lost (goal.at.debit_from-requires c).After-receipt_record-2 in
-    let M = freed-2 (goal.at.debit_from-requires c).After-release_to-2 in
+    let M = freed_2 (goal.at.debit_from-requires c).After-release_to-2 in
     ((asked M).0, (asked M).1, from_in B, rw M.zone (λ _. pass_free B.funds))
 
 pub credit_to-requires : goal.credit_to-requires

@@ -27,13 +27,13 @@ holds : (c : After-hold_of-new) → c.hold_of-new.result ≡ hold_of (record_of 
 holds c = c.hold_of-new.ensures ∙ ap hold_of c.record_of-after.ensures
 
 -- the image with the lot's receipt changed
-receipt-changed : (c : After-receipt_record) → ReceiptPut c.args.image.now c.receipt_record.new.image c.args.e.lot c.args.r
-receipt-changed c = record_put c.requires.1.fits c.requires.1.valid c.requires.1.low c.record_of-after.ensures c.receipt_record.ensures
+receipt_changed : (c : After-receipt_record) → ReceiptPut c.args.image.now c.receipt_record.new.image c.args.e.lot c.args.r
+receipt_changed c = record_put c.requires.1.fits c.requires.1.valid c.requires.1.low c.record_of-after.ensures c.receipt_record.ensures
 
 -- the moves find their money
 funds : (c : After-money_of) →
     Funds (decode c.receipt_record.new.image).accounts c.hold_of-old.result c.args.e.from c.args.e.to c.money_of.result c.hold_of-new.result
-funds c = rw ((receipt-changed c.before.before.before.before).zone, c.money_of.ensures, holds c.before.before.before.before.before.before, held c.before.before.before.before.before.before.before.before) c.requires.1.funded
+funds c = rw ((receipt_changed c.before.before.before.before).zone, c.money_of.ensures, holds c.before.before.before.before.before.before, held c.before.before.before.before.before.before.before.before) c.requires.1.funded
 
 pub record_at-requires : goal.record_at-requires
 record_at-requires c = (same_long _ c.requires.0, omega (arith, c.requires.1.high))
@@ -49,7 +49,7 @@ receipt_record-requires c = (c.requires.0, omega (arith, c.requires.1.high), rec
 
 pub move_money-requires : goal.move_money-requires
 move_money-requires c =
-    let C = receipt-changed (goal.at.move_money-requires c).After-receipt_record in
+    let C = receipt_changed (goal.at.move_money-requires c).After-receipt_record in
     (encoded _ _ C.is C.zone, rw C.zone C.fits, funds (goal.at.move_money-requires c).After-money_of)
 
 pub returns : goal.returns
@@ -57,5 +57,5 @@ unfolding posted accounts_after
 returns c =
     c.move_money.ensures
     ∙ ap (λ (y : Zone). encode (with_accounts y (money_moved c.hold_of-old.result c.args.e.from c.args.e.to c.money_of.result c.hold_of-new.result y.accounts)))
-    (receipt-changed (goal.at.returns c).After-receipt_record).zone
+    (receipt_changed (goal.at.returns c).After-receipt_record).zone
     ∙ rw (c.money_of.ensures, holds (goal.at.returns c).After-hold_of-new, held (goal.at.returns c).After-hold_of-old)

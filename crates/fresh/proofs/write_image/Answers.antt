@@ -16,14 +16,14 @@ use Rattle.fresh.proofs.write_image.Goals as goal
 use Rattle.fresh.proofs.write_image.Goals.{Start}
 
 -- the lengths of the zone's arrays, at the function's entry
-accounts-long : (c : Start) → length c.args.z.accounts ≡ account_count
-accounts-long c = search (rules, length_of_map)
+accounts_long : (c : Start) → length c.args.z.accounts ≡ account_count
+accounts_long c = search (rules, length_of_map)
 
-asks-long : (c : Start) → length c.args.z.asks ≡ contract_count
-asks-long c = search (rules, length_of_map)
+asks_long : (c : Start) → length c.args.z.asks ≡ contract_count
+asks_long c = search (rules, length_of_map)
 
-receipts-long : (c : Start) → length c.args.z.receipts ≡ receipt_count
-receipts-long c = search (rules, length_of_map)
+receipts_long : (c : Start) → length c.args.z.receipts ≡ receipt_count
+receipts_long c = search (rules, length_of_map)
 
 pub returns : goal.returns
 unfolding encode
@@ -38,6 +38,6 @@ returns c =
     ∙ ap (λ (t : List ℕ). sets (sets t contract_start k) receipt_start r) c.put_accounts.ensures
     ∙ ap (λ (t : List ℕ). sets (sets (sets t account_start a) contract_start k) receipt_start r) c.put_header.ensures
     ∙ put_four s (header_bytes z.day z.afternoon z.total.0) a k r c.requires (header_wide z.day z.afternoon z.total.0)
-    (length_table_bytes account_bytes account_length account_wide z.accounts ∙ ap (λ (n : ℕ). n * account_length) (accounts-long (goal.at.returns c).Start))
-    (length_table_bytes ask_bytes ask_length ask_wide z.asks ∙ ap (λ (n : ℕ). n * ask_length) (asks-long (goal.at.returns c).Start))
-    (length_table_bytes receipt_bytes receipt_length receipt_wide z.receipts ∙ ap (λ (n : ℕ). n * receipt_length) (receipts-long (goal.at.returns c).Start))
+    (length_table_bytes account_bytes account_length account_wide z.accounts ∙ ap (λ (n : ℕ). n * account_length) (accounts_long (goal.at.returns c).Start))
+    (length_table_bytes ask_bytes ask_length ask_wide z.asks ∙ ap (λ (n : ℕ). n * ask_length) (asks_long (goal.at.returns c).Start))
+    (length_table_bytes receipt_bytes receipt_length receipt_wide z.receipts ∙ ap (λ (n : ℕ). n * receipt_length) (receipts_long (goal.at.returns c).Start))

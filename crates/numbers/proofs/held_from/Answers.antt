@@ -12,15 +12,15 @@ use Rattle.numbers.proofs.held_from.Goals as goal
 use Rattle.numbers.proofs.held_from.Goals.{After-hold_of-h}
 
 -- a lot holds from its buyer
-by-buyer : (c : After-hold_of-h) → c.hold_of-h.result.from ≡ c.args.f.buyer
-by-buyer c = ap (λ (h : Hold). h.from) c.hold_of-h.ensures
+by_buyer : (c : After-hold_of-h) → c.hold_of-h.result.from ≡ c.args.f.buyer
+by_buyer c = ap (λ (h : Hold). h.from) c.hold_of-h.ensures
 
 pub returns-then-a-h : goal.returns-then-a-h
 unfolding held_from fen_from
 returns-then-a-h c =
     let a = c.args.a in
     let f = c.args.f in
-    let same : eqb a f.buyer ≡ true = eq-eqb _ _ (c.if-a-h.true ∙ by-buyer (goal.at.returns-then-a-h c).After-hold_of-h) in
+    let same : eqb a f.buyer ≡ true = eq-eqb _ _ (c.if-a-h.true ∙ by_buyer (goal.at.returns-then-a-h c).After-hold_of-h) in
     let e : c.hold_of-h.result.fen.0 ≡ held_from a f = rw (same, c.hold_of-h.ensures) in
     (e, rw e (omega (arith, held_from_le a f c.requires)))
 
@@ -29,4 +29,4 @@ unfolding held_from fen_from
 returns-else-a-h c =
     let a = c.args.a in
     let f = c.args.f in
-    (rw (ne_eqb a f.buyer (λ e. c.if-a-h.false (e ∙ sym (by-buyer (goal.at.returns-else-a-h c).After-hold_of-h)))), omega arith)
+    (rw (ne_eqb a f.buyer (λ e. c.if-a-h.false (e ∙ sym (by_buyer (goal.at.returns-else-a-h c).After-hold_of-h)))), omega arith)

@@ -38,22 +38,22 @@ walked c =
     c.owed_of-h.ensures ∙ ap (owed_of c.args.day) c.record_at.ensures ∙ sym (hold_valid (owed_of c.args.day) _ v)
 
 -- it is from an account or from nobody, and small
-from-known : (c : After-owed_of-h) → c.owed_of-h.result.from ≤ account_count
-from-known c = rw (walked c) (owed_known _ _)
+from_known : (c : After-owed_of-h) → c.owed_of-h.result.from ≤ account_count
+from_known c = rw (walked c) (owed_known _ _)
 
-fen-small : (c : After-owed_of-h) → c.owed_of-h.result.fen.0 ≤ most_full
-fen-small c = rw (walked c) (owed_small _ _)
+fen_small : (c : After-owed_of-h) → c.owed_of-h.result.fen.0 ≤ most_full
+fen_small c = rw (walked c) (owed_small _ _)
 
 pub bounds-sums-place : goal.bounds-sums-place
-bounds-sums-place c = omega (arith, from-known (goal.at.bounds-sums-place c).After-owed_of-h)
+bounds-sums-place c = omega (arith, from_known (goal.at.bounds-sums-place c).After-owed_of-h)
 
 pub plus-requires : goal.plus-requires
 plus-requires c =
     let day = c.args.day in
-    sum_room c.args.image.now (valid_owed day) (owed_known day) (owed_small day) c.loop-i.i _ c.loop-i.invariant.1 _ (omega (arith, from-known (goal.at.plus-requires c).After-owed_of-h)) _ (fen-small (goal.at.plus-requires c).After-owed_of-h)
+    sum_room c.args.image.now (valid_owed day) (owed_known day) (owed_small day) c.loop-i.i _ c.loop-i.invariant.1 _ (omega (arith, from_known (goal.at.plus-requires c).After-owed_of-h)) _ (fen_small (goal.at.plus-requires c).After-owed_of-h)
 
 pub bounds-sums-place-then-from-ne0 : goal.bounds-sums-place-then-from-ne0
-bounds-sums-place-then-from-ne0 c = omega (arith, from-known (goal.at.bounds-sums-place-then-from-ne0 c).After-owed_of-h)
+bounds-sums-place-then-from-ne0 c = omega (arith, from_known (goal.at.bounds-sums-place-then-from-ne0 c).After-owed_of-h)
 
 pub loop-i-preserved-then-from-ne0 : goal.loop-i-preserved-then-from-ne0
 loop-i-preserved-then-from-ne0 c =

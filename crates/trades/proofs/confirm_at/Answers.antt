@@ -15,10 +15,10 @@ here : (c : Start) → PartPaid c.args.f
 here c = part_paid c.args.f c.requires.0 c.requires.1
 
 -- what the code pays is the definition's part
-part-here : (c : After-part_payment-part) →
+part_here : (c : After-part_payment-part) →
     let f = c.args.f in
     c.part_payment-part.result.0 ≡ (part_payment (full f) f.confirmed f.paid f.pending).0
-part-here c = rw (c.part_payment-part.ensures, c.full_of-full.ensures)
+part_here c = rw (c.part_payment-part.ensures, c.full_of-full.ensures)
 
 pub full_of-full-requires : goal.full_of-full-requires
 full_of-full-requires c = (bounds c.args.f c.requires.0).weight
@@ -29,12 +29,12 @@ part_payment-part-requires c =
     rw c.full_of-full.ensures (omega (arith, i), c.requires.2, i.invoices.pending, i.invoices.paid)
 
 pub overflow_cast-part : goal.overflow_cast-part
-overflow_cast-part c = omega (arith, here c.before.before.before.before.before.before, part-here c.before)
+overflow_cast-part c = omega (arith, here c.before.before.before.before.before.before, part_here c.before)
 
 pub confirmed_lot-requires : goal.confirmed_lot-requires
 confirmed_lot-requires c =
     let i = here c.before.before.before.before.before.before.before in
-    let p = part-here c.before.before in
+    let p = part_here c.before.before in
     (omega (arith, i), omega (arith, i, p))
 
 pub returns : goal.returns

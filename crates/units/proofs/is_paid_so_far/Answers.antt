@@ -13,8 +13,8 @@ use Rattle.units.proofs.is_paid_so_far.Goals as goal
 use Rattle.units.proofs.is_paid_so_far.Goals.{After-rest_payment-rest, Else-rest-so_far}
 
 -- a quotient known by two products
-by-products : (x y k : ℕ) → 0 < k → leb (x * k) y && ltb y (x * k + k) ≡ eqb x (y / k)
-by-products x y k some = go (leb (x * k) y) (ltb y (x * k + k)) (eqb x (y / k)) refl refl refl
+by_products : (x y k : ℕ) → 0 < k → leb (x * k) y && ltb y (x * k + k) ≡ eqb x (y / k)
+by_products x y k some = go (leb (x * k) y) (ltb y (x * k + k)) (eqb x (y / k)) refl refl refl
   where
     least : x ≡ y / k → x * k ≤ y
     least e = subst (λ (n : ℕ). n * k ≤ y) (sym e) (div-mul-le_self y k)
@@ -34,8 +34,8 @@ by-products x y k some = go (leb (x * k) y) (ltb y (x * k + k)) (eqb x (y / k)) 
     go false b false p q e = refl
 
 -- the rest is part of full
-rest-small : (c : After-rest_payment-rest) → c.rest_payment-rest.result.0 ≤ c.args.full.0
-rest-small c = rw c.rest_payment-rest.ensures (rest_le c.args.full)
+rest_small : (c : After-rest_payment-rest) → c.rest_payment-rest.result.0 ≤ c.args.full.0
+rest_small c = rw c.rest_payment-rest.ensures (rest_le c.args.full)
 
 pub returns-then-rest-so_far : goal.returns-then-rest-so_far
 returns-then-rest-so_far c =
@@ -46,25 +46,25 @@ returns-then-rest-so_far c =
 pub overflow_mul-product : goal.overflow_mul-product
 overflow_mul-product c =
     let a = c.args in
-    let rest : c.rest_payment-rest.result.0 ≤ 4294967295 = omega (arith, rest-small c.before) in
+    let rest : c.rest_payment-rest.result.0 ≤ 4294967295 = omega (arith, rest_small c.before) in
     let sum : a.confirmed.0 ≤ 4294967295 = omega (arith, c.requires) in
     omega (arith, mul-le-mul rest sum)
 
 -- what was paid is below 2 ^ 32 too
-lower-small : (c : Else-rest-so_far) → c.args.paid.0 * c.args.full.0 ≤ 4294967295 * 4294967295
-lower-small c =
-    let paid : c.args.paid.0 ≤ 4294967295 = omega (arith, rest-small c.before, c.if-rest-so_far.false, c.requires) in
+lower_small : (c : Else-rest-so_far) → c.args.paid.0 * c.args.full.0 ≤ 4294967295 * 4294967295
+lower_small c =
+    let paid : c.args.paid.0 ≤ 4294967295 = omega (arith, rest_small c.before, c.if-rest-so_far.false, c.requires) in
     let all : c.args.full.0 ≤ 4294967295 = omega (arith, c.requires) in
     mul-le-mul paid all
 
 pub overflow_mul-lower : goal.overflow_mul-lower
-overflow_mul-lower c = omega (arith, lower-small c)
+overflow_mul-lower c = omega (arith, lower_small c)
 
 pub overflow_add-result : goal.overflow_add-result
-overflow_add-result c = omega (arith, lower-small c, c.requires)
+overflow_add-result c = omega (arith, lower_small c, c.requires)
 
 pub returns : goal.returns
 unfolding paid_so_far
 returns c =
     let a = c.args in
-    rw c.rest_payment-rest.ensures (by-products a.paid.0 ((rest_payment a.full).0 * a.confirmed.0) a.full.0 (omega (arith, c.requires)))
+    rw c.rest_payment-rest.ensures (by_products a.paid.0 ((rest_payment a.full).0 * a.confirmed.0) a.full.0 (omega (arith, c.requires)))

@@ -21,15 +21,15 @@ pub frozen_sums-sums-requires : goal.frozen_sums-sums-requires
 frozen_sums-sums-requires c = (c.requires.0, refl)
 
 -- as many marks as records
-marks-count : (c : After-frozen_sums-sums) → length c.frozen_sums-sums.new.valid ≡ receipt_count
+marks_count : (c : After-frozen_sums-sums) → length c.frozen_sums-sums.new.valid ≡ receipt_count
 unfolding records_in
-marks-count c = ap length c.frozen_sums-sums.ensures.1 ∙ length-map (records_in c.args.image.now) record_valid ∙ length_table receipt_count _
+marks_count c = ap length c.frozen_sums-sums.ensures.1 ∙ length-map (records_in c.args.image.now) record_valid ∙ length_table receipt_count _
 
 pub slice_bounds-all_set-end : goal.slice_bounds-all_set-end
-slice_bounds-all_set-end c = sym (marks-count (goal.at.slice_bounds-all_set-end c).After-frozen_sums-sums)
+slice_bounds-all_set-end c = sym (marks_count (goal.at.slice_bounds-all_set-end c).After-frozen_sums-sums)
 
 pub all_set-requires : goal.all_set-requires
-all_set-requires c = marks-count (goal.at.all_set-requires c).After-frozen_sums-sums
+all_set-requires c = marks_count (goal.at.all_set-requires c).After-frozen_sums-sums
 
 -- the marks tell whether all records are valid
 told : (c : After-all_set) → c.all_set.result ≡ all record_valid (records_in c.args.image.now)

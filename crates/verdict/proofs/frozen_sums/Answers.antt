@@ -27,11 +27,11 @@ pub hold_at-h-requires : goal.hold_at-h-requires
 hold_at-h-requires c = (c.requires.0, omega arith, rw c.loop-i.invariant.2 (marks_length _ _))
 
 -- the walk's hold is from an account or from nobody, and small
-from-known : (c : After-hold_at-h) → c.hold_at-h.result.from ≤ account_count
-from-known c = rw c.hold_at-h.ensures.0 (hold_known _)
+from_known : (c : After-hold_at-h) → c.hold_at-h.result.from ≤ account_count
+from_known c = rw c.hold_at-h.ensures.0 (hold_known _)
 
-fen-small : (c : After-hold_at-h) → c.hold_at-h.result.fen.0 ≤ most_full
-fen-small c = rw c.hold_at-h.ensures.0 (hold_small _)
+fen_small : (c : After-hold_at-h) → c.hold_at-h.result.fen.0 ≤ most_full
+fen_small c = rw c.hold_at-h.ensures.0 (hold_small _)
 
 -- the marks after a turn
 marked_next : (c : After-hold_at-h) →
@@ -44,14 +44,14 @@ marked_next c =
     ap (λ (m : List Bool). marked m (l.i - 1) (record_valid (rec s (l.i - 1)))) l.invariant.2 ∙ marks_turn s l.i (omega arith) (omega arith)
 
 pub bounds-sums-place : goal.bounds-sums-place
-bounds-sums-place c = omega (arith, from-known (goal.at.bounds-sums-place c).After-hold_at-h)
+bounds-sums-place c = omega (arith, from_known (goal.at.bounds-sums-place c).After-hold_at-h)
 
 pub plus-requires : goal.plus-requires
 plus-requires c =
-    sum_room c.args.image.now valid_hold hold_known hold_small c.loop-i.i _ c.loop-i.invariant.1 _ (omega (arith, from-known (goal.at.plus-requires c).After-hold_at-h)) _ (fen-small (goal.at.plus-requires c).After-hold_at-h)
+    sum_room c.args.image.now valid_hold hold_known hold_small c.loop-i.i _ c.loop-i.invariant.1 _ (omega (arith, from_known (goal.at.plus-requires c).After-hold_at-h)) _ (fen_small (goal.at.plus-requires c).After-hold_at-h)
 
 pub bounds-sums-place-then-from-ne0 : goal.bounds-sums-place-then-from-ne0
-bounds-sums-place-then-from-ne0 c = omega (arith, from-known (goal.at.bounds-sums-place-then-from-ne0 c).After-hold_at-h)
+bounds-sums-place-then-from-ne0 c = omega (arith, from_known (goal.at.bounds-sums-place-then-from-ne0 c).After-hold_at-h)
 
 pub loop-i-preserved-then-from-ne0 : goal.loop-i-preserved-then-from-ne0
 loop-i-preserved-then-from-ne0 c =

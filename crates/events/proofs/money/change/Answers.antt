@@ -20,11 +20,11 @@ use Rattle.events.proofs.money.change.Goals.{After-account_at-v}
 here : (c : After-account_at-v) → c.account_at-v.result ≡ get_or (decode c.args.image.now).accounts (c.args.a - 1) empty_account
 here c = c.account_at-v.ensures ∙ account_in_place c.args.image.now (c.args.a - 1) (omega (arith, c.requires.1.place))
 
-free-here : (c : After-account_at-v) → c.account_at-v.result.free.0 ≡ (free_of (decode c.args.image.now).accounts c.args.a).0
-free-here c = ap (λ (v : Account). v.free.0) (here c) ∙ sym (at_index (decode c.args.image.now).accounts c.args.a (omega arith)).free
+free_here : (c : After-account_at-v) → c.account_at-v.result.free.0 ≡ (free_of (decode c.args.image.now).accounts c.args.a).0
+free_here c = ap (λ (v : Account). v.free.0) (here c) ∙ sym (at_index (decode c.args.image.now).accounts c.args.a (omega arith)).free
 
-frozen-here : (c : After-account_at-v) → c.account_at-v.result.frozen.0 ≡ (frozen_of (decode c.args.image.now).accounts c.args.a).0
-frozen-here c = ap (λ (v : Account). v.frozen.0) (here c) ∙ sym (at_index (decode c.args.image.now).accounts c.args.a (omega arith)).frozen
+frozen_here : (c : After-account_at-v) → c.account_at-v.result.frozen.0 ≡ (frozen_of (decode c.args.image.now).accounts c.args.a).0
+frozen_here c = ap (λ (v : Account). v.frozen.0) (here c) ∙ sym (at_index (decode c.args.image.now).accounts c.args.a (omega arith)).frozen
 
 pub returns-then-a-eq0 : goal.returns-then-a-eq0
 returns-then-a-eq0 c =
@@ -38,16 +38,16 @@ pub account_at-v-requires : goal.account_at-v-requires
 account_at-v-requires c = (same_long _ c.requires.0, omega (arith, c.requires.1.place))
 
 pub overflow_add-free : goal.overflow_add-free
-overflow_add-free c = let p : 0 < c.args.a = omega arith in omega (arith, free-here (goal.at.overflow_add-free c).After-account_at-v, c.requires.1.added_in p, at_index (decode c.args.image.now).accounts c.args.a p, c.requires.1.all)
+overflow_add-free c = let p : 0 < c.args.a = omega arith in omega (arith, free_here (goal.at.overflow_add-free c).After-account_at-v, c.requires.1.added_in p, at_index (decode c.args.image.now).accounts c.args.a p, c.requires.1.all)
 
 pub overflow_sub-free : goal.overflow_sub-free
-overflow_sub-free c = let p : 0 < c.args.a = omega arith in omega (arith, free-here (goal.at.overflow_sub-free c).After-account_at-v, c.requires.1.free p)
+overflow_sub-free c = let p : 0 < c.args.a = omega arith in omega (arith, free_here (goal.at.overflow_sub-free c).After-account_at-v, c.requires.1.free p)
 
 pub overflow_add-frozen : goal.overflow_add-frozen
-overflow_add-frozen c = let p : 0 < c.args.a = omega arith in omega (arith, frozen-here (goal.at.overflow_add-frozen c).After-account_at-v, c.requires.1.held_in p, at_index (decode c.args.image.now).accounts c.args.a p, c.requires.1.all)
+overflow_add-frozen c = let p : 0 < c.args.a = omega arith in omega (arith, frozen_here (goal.at.overflow_add-frozen c).After-account_at-v, c.requires.1.held_in p, at_index (decode c.args.image.now).accounts c.args.a p, c.requires.1.all)
 
 pub overflow_sub-frozen : goal.overflow_sub-frozen
-overflow_sub-frozen c = let p : 0 < c.args.a = omega arith in omega (arith, frozen-here (goal.at.overflow_sub-frozen c).After-account_at-v, c.requires.1.frozen p)
+overflow_sub-frozen c = let p : 0 < c.args.a = omega arith in omega (arith, frozen_here (goal.at.overflow_sub-frozen c).After-account_at-v, c.requires.1.frozen p)
 
 pub account-requires : goal.account-requires
 account-requires c = (c.requires.0, omega (arith, c.requires.1.place))

@@ -3,47 +3,47 @@ use Rattle.ledger_book.specs.Loops.{left}
 use Rattle.longrun.proofs.runs.all_lengths.Statement.{statement}
 use Rattle.longrun.proofs.runs.all_lengths.Tie as tie
 
-abbrev invariant-loop : tie.invariant-loop
-invariant-loop tally₀ image₀ second₀ length₀ tally image second length = Unit {0}
+abbrev invariant_loop : tie.invariant-loop
+invariant_loop tally₀ image₀ second₀ length₀ tally image second length = Unit {0}
 
-abbrev decreases-loop : tie.decreases-loop
-decreases-loop tally₀ image₀ second₀ length₀ tally image second length = left length
+abbrev decreases_loop : tie.decreases-loop
+decreases_loop tally₀ image₀ second₀ length₀ tally image second length = left length
 
-filled-requires : tie.Need-filled-requires invariant-loop decreases-loop
-filled-requires c κs = search rules
+filled_requires : tie.Need-filled-requires invariant_loop decreases_loop
+filled_requires c κs = search rules
 
-filled-requires-2 : tie.Need-filled-requires-2 invariant-loop decreases-loop
-filled-requires-2 c κs = search rules
+filled_requires_2 : tie.Need-filled-requires-2 invariant_loop decreases_loop
+filled_requires_2 c κs = search rules
 
-loop-holds : tie.Need-loop-init invariant-loop decreases-loop
-loop-holds c = search rules
+loop_holds : tie.Need-loop-init invariant_loop decreases_loop
+loop_holds c = search rules
 
-make-fresh-requires : tie.Need-make-fresh-requires invariant-loop decreases-loop
-make-fresh-requires c κs = search rules
+make_fresh_requires : tie.Need-make-fresh-requires invariant_loop decreases_loop
+make_fresh_requires c κs = search rules
 
-add-length : tie.Need-overflow-add-length invariant-loop decreases-loop
-add-length c = search rules
+add_length : tie.Need-overflow-add-length invariant_loop decreases_loop
+add_length c = search rules
 
-loop-less : tie.Need-loop-smaller invariant-loop decreases-loop
-loop-less c = search rules
+loop_less : tie.Need-loop-smaller invariant_loop decreases_loop
+loop_less c = search rules
 
-loop-again : tie.Need-loop-preserved invariant-loop decreases-loop
-loop-again c = search rules
+loop_again : tie.Need-loop-preserved invariant_loop decreases_loop
+loop_again c = search rules
 
-returns : tie.Need-returns invariant-loop decreases-loop
+returns : tie.Need-returns invariant_loop decreases_loop
 returns c = search rules
 
-pub all-lengths-spec : {M : Type 1} → statement M
-all-lengths-spec =
+pub all_lengths_spec : {M : Type 1} → statement M
+all_lengths_spec =
     tie.close
     (tie.spec
-    invariant-loop
-    decreases-loop
-    filled-requires
-    filled-requires-2
-    loop-holds
-    make-fresh-requires
-    add-length
-    loop-less
-    loop-again
+    invariant_loop
+    decreases_loop
+    filled_requires
+    filled_requires_2
+    loop_holds
+    make_fresh_requires
+    add_length
+    loop_less
+    loop_again
     returns)

@@ -3,31 +3,31 @@ use Rattle.ledger_book.specs.Loops.{left}
 use Rattle.longrun_call_tables.proofs.counts.goes_on.Statement.{statement}
 use Rattle.longrun_call_tables.proofs.counts.goes_on.Tie as tie
 
-abbrev invariant-loop : tie.invariant-loop
-invariant-loop calls answers refused₀ found₀ k₀ refused found k = Unit {0}
+abbrev invariant_loop : tie.invariant-loop
+invariant_loop calls answers refused₀ found₀ k₀ refused found k = Unit {0}
 
-abbrev decreases-loop : tie.decreases-loop
-decreases-loop calls answers refused₀ found₀ k₀ refused found k = left k
+abbrev decreases_loop : tie.decreases-loop
+decreases_loop calls answers refused₀ found₀ k₀ refused found k = left k
 
-loop-holds : tie.Need-loop-init invariant-loop decreases-loop
-loop-holds c = search rules
+loop_holds : tie.Need-loop-init invariant_loop decreases_loop
+loop_holds c = search rules
 
-number-at-requires : tie.Need-number-at-requires invariant-loop decreases-loop
-number-at-requires c κs = search rules
+number_at_requires : tie.Need-number-at-requires invariant_loop decreases_loop
+number_at_requires c κs = search rules
 
-add-k : tie.Need-overflow-add-k invariant-loop decreases-loop
-add-k c = search rules
+add_k : tie.Need-overflow-add-k invariant_loop decreases_loop
+add_k c = search rules
 
-loop-less : tie.Need-loop-smaller invariant-loop decreases-loop
-loop-less c = search rules
+loop_less : tie.Need-loop-smaller invariant_loop decreases_loop
+loop_less c = search rules
 
-loop-again : tie.Need-loop-preserved invariant-loop decreases-loop
-loop-again c = search rules
+loop_again : tie.Need-loop-preserved invariant_loop decreases_loop
+loop_again c = search rules
 
-returns : tie.Need-returns invariant-loop decreases-loop
+returns : tie.Need-returns invariant_loop decreases_loop
 returns c = search rules
 
-pub goes-on-spec : {M : Type 1} → statement M
-goes-on-spec =
+pub goes_on_spec : {M : Type 1} → statement M
+goes_on_spec =
     tie.close
-    (tie.spec invariant-loop decreases-loop loop-holds number-at-requires add-k loop-less loop-again returns)
+    (tie.spec invariant_loop decreases_loop loop_holds number_at_requires add_k loop_less loop_again returns)

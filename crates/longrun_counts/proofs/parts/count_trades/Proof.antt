@@ -3,39 +3,39 @@ use Rattle.ledger_book.specs.Loops.{left}
 use Rattle.longrun_counts.proofs.parts.count_trades.Statement.{statement}
 use Rattle.longrun_counts.proofs.parts.count_trades.Tie as tie
 
-abbrev invariant-loop : tie.invariant-loop
-invariant-loop sound altered number tally₀ lot₀ tally lot = Unit {0}
+abbrev invariant_loop : tie.invariant-loop
+invariant_loop sound altered number tally₀ lot₀ tally lot = Unit {0}
 
-abbrev decreases-loop : tie.decreases-loop
-decreases-loop sound altered number tally₀ lot₀ tally lot = left lot
+abbrev decreases_loop : tie.decreases-loop
+decreases_loop sound altered number tally₀ lot₀ tally lot = left lot
 
-loop-holds : tie.Need-loop-init invariant-loop decreases-loop
-loop-holds c = search rules
+loop_holds : tie.Need-loop-init invariant_loop decreases_loop
+loop_holds c = search rules
 
-count-trade-requires : tie.Need-count-trade-requires invariant-loop decreases-loop
-count-trade-requires c κs = search rules
+count_trade_requires : tie.Need-count-trade-requires invariant_loop decreases_loop
+count_trade_requires c κs = search rules
 
-add-lot : tie.Need-overflow-add-lot invariant-loop decreases-loop
-add-lot c = search rules
+add_lot : tie.Need-overflow-add-lot invariant_loop decreases_loop
+add_lot c = search rules
 
-loop-less : tie.Need-loop-smaller invariant-loop decreases-loop
-loop-less c = search rules
+loop_less : tie.Need-loop-smaller invariant_loop decreases_loop
+loop_less c = search rules
 
-loop-again : tie.Need-loop-preserved invariant-loop decreases-loop
-loop-again c = search rules
+loop_again : tie.Need-loop-preserved invariant_loop decreases_loop
+loop_again c = search rules
 
-returns : tie.Need-returns invariant-loop decreases-loop
+returns : tie.Need-returns invariant_loop decreases_loop
 returns c = search rules
 
-pub count-trades-spec : {M : Type 1} → statement M
-count-trades-spec =
+pub count_trades_spec : {M : Type 1} → statement M
+count_trades_spec =
     tie.close
     (tie.spec
-    invariant-loop
-    decreases-loop
-    loop-holds
-    count-trade-requires
-    add-lot
-    loop-less
-    loop-again
+    invariant_loop
+    decreases_loop
+    loop_holds
+    count_trade_requires
+    add_lot
+    loop_less
+    loop_again
     returns)

@@ -3,51 +3,51 @@ use Rattle.ledger_book.specs.Loops.{left}
 use Rattle.longrun_pay_ins.proofs.pay_ins.some_short.Statement.{statement}
 use Rattle.longrun_pay_ins.proofs.pay_ins.some_short.Tie as tie
 
-abbrev invariant-loop : tie.invariant-loop
-invariant-loop seed figures first found₀ k₀ found k = Unit {0}
+abbrev invariant_loop : tie.invariant-loop
+invariant_loop seed figures first found₀ k₀ found k = Unit {0}
 
-abbrev decreases-loop : tie.decreases-loop
-decreases-loop seed figures first found₀ k₀ found k = left k
+abbrev decreases_loop : tie.decreases-loop
+decreases_loop seed figures first found₀ k₀ found k = left k
 
-below-requires : tie.Need-below-requires invariant-loop decreases-loop
-below-requires c κs = search rules
+below_requires : tie.Need-below-requires invariant_loop decreases_loop
+below_requires c κs = search rules
 
-loop-holds : tie.Need-loop-init invariant-loop decreases-loop
-loop-holds c = search rules
+loop_holds : tie.Need-loop-init invariant_loop decreases_loop
+loop_holds c = search rules
 
-plus-requires : tie.Need-plus-requires invariant-loop decreases-loop
-plus-requires c κs = search rules
+plus_requires : tie.Need-plus-requires invariant_loop decreases_loop
+plus_requires c κs = search rules
 
-plus-requires-2 : tie.Need-plus-requires-2 invariant-loop decreases-loop
-plus-requires-2 c κs = search rules
+plus_requires_2 : tie.Need-plus-requires-2 invariant_loop decreases_loop
+plus_requires_2 c κs = search rules
 
-page-cell-requires : tie.Need-page-cell-requires invariant-loop decreases-loop
-page-cell-requires c κs = search rules
+page_cell_requires : tie.Need-page-cell-requires invariant_loop decreases_loop
+page_cell_requires c κs = search rules
 
-add-k : tie.Need-overflow-add-k invariant-loop decreases-loop
-add-k c = search rules
+add_k : tie.Need-overflow-add-k invariant_loop decreases_loop
+add_k c = search rules
 
-loop-less : tie.Need-loop-smaller invariant-loop decreases-loop
-loop-less c = search rules
+loop_less : tie.Need-loop-smaller invariant_loop decreases_loop
+loop_less c = search rules
 
-loop-again : tie.Need-loop-preserved invariant-loop decreases-loop
-loop-again c = search rules
+loop_again : tie.Need-loop-preserved invariant_loop decreases_loop
+loop_again c = search rules
 
-returns : tie.Need-returns invariant-loop decreases-loop
+returns : tie.Need-returns invariant_loop decreases_loop
 returns c = search rules
 
-pub some-short-spec : {M : Type 1} → statement M
-some-short-spec =
+pub some_short_spec : {M : Type 1} → statement M
+some_short_spec =
     tie.close
     (tie.spec
-    invariant-loop
-    decreases-loop
-    below-requires
-    loop-holds
-    plus-requires
-    plus-requires-2
-    page-cell-requires
-    add-k
-    loop-less
-    loop-again
+    invariant_loop
+    decreases_loop
+    below_requires
+    loop_holds
+    plus_requires
+    plus_requires_2
+    page_cell_requires
+    add_k
+    loop_less
+    loop_again
     returns)

@@ -3,39 +3,39 @@ use Rattle.ledger_book.specs.Loops.{left}
 use Rattle.longrun_shortfalls.proofs.counts.count_accounts.Statement.{statement}
 use Rattle.longrun_shortfalls.proofs.counts.count_accounts.Tie as tie
 
-abbrev invariant-loop : tie.invariant-loop
-invariant-loop image owing tally₀ account₀ tally account = Unit {0}
+abbrev invariant_loop : tie.invariant-loop
+invariant_loop image owing tally₀ account₀ tally account = Unit {0}
 
-abbrev decreases-loop : tie.decreases-loop
-decreases-loop image owing tally₀ account₀ tally account = left account
+abbrev decreases_loop : tie.decreases-loop
+decreases_loop image owing tally₀ account₀ tally account = left account
 
-loop-holds : tie.Need-loop-init invariant-loop decreases-loop
-loop-holds c = search rules
+loop_holds : tie.Need-loop-init invariant_loop decreases_loop
+loop_holds c = search rules
 
-count-account-requires : tie.Need-count-account-requires invariant-loop decreases-loop
-count-account-requires c κs = search rules
+count_account_requires : tie.Need-count-account-requires invariant_loop decreases_loop
+count_account_requires c κs = search rules
 
-add-account : tie.Need-overflow-add-account invariant-loop decreases-loop
-add-account c = search rules
+add_account : tie.Need-overflow-add-account invariant_loop decreases_loop
+add_account c = search rules
 
-loop-less : tie.Need-loop-smaller invariant-loop decreases-loop
-loop-less c = search rules
+loop_less : tie.Need-loop-smaller invariant_loop decreases_loop
+loop_less c = search rules
 
-loop-again : tie.Need-loop-preserved invariant-loop decreases-loop
-loop-again c = search rules
+loop_again : tie.Need-loop-preserved invariant_loop decreases_loop
+loop_again c = search rules
 
-returns : tie.Need-returns invariant-loop decreases-loop
+returns : tie.Need-returns invariant_loop decreases_loop
 returns c = search rules
 
-pub count-accounts-spec : {M : Type 1} → statement M
-count-accounts-spec =
+pub count_accounts_spec : {M : Type 1} → statement M
+count_accounts_spec =
     tie.close
     (tie.spec
-    invariant-loop
-    decreases-loop
-    loop-holds
-    count-account-requires
-    add-account
-    loop-less
-    loop-again
+    invariant_loop
+    decreases_loop
+    loop_holds
+    count_account_requires
+    add_account
+    loop_less
+    loop_again
     returns)

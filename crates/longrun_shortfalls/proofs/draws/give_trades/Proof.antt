@@ -3,43 +3,43 @@ use Rattle.ledger_book.specs.Loops.{left}
 use Rattle.longrun_shortfalls.proofs.draws.give_trades.Statement.{statement}
 use Rattle.longrun_shortfalls.proofs.draws.give_trades.Tie as tie
 
-abbrev invariant-loop : tie.invariant-loop
-invariant-loop seed image₀ accounts buyer lot₀ image lot = Unit {0}
+abbrev invariant_loop : tie.invariant-loop
+invariant_loop seed image₀ accounts buyer lot₀ image lot = Unit {0}
 
-abbrev decreases-loop : tie.decreases-loop
-decreases-loop seed image₀ accounts buyer lot₀ image lot = left lot
+abbrev decreases_loop : tie.decreases-loop
+decreases_loop seed image₀ accounts buyer lot₀ image lot = left lot
 
-between-requires : tie.Need-between-requires invariant-loop decreases-loop
-between-requires c κs = search rules
+between_requires : tie.Need-between-requires invariant_loop decreases_loop
+between_requires c κs = search rules
 
-loop-holds : tie.Need-loop-init invariant-loop decreases-loop
-loop-holds c = search rules
+loop_holds : tie.Need-loop-init invariant_loop decreases_loop
+loop_holds c = search rules
 
-give-trade-requires : tie.Need-give-trade-requires invariant-loop decreases-loop
-give-trade-requires c κs = search rules
+give_trade_requires : tie.Need-give-trade-requires invariant_loop decreases_loop
+give_trade_requires c κs = search rules
 
-add-lot : tie.Need-overflow-add-lot invariant-loop decreases-loop
-add-lot c = search rules
+add_lot : tie.Need-overflow-add-lot invariant_loop decreases_loop
+add_lot c = search rules
 
-loop-less : tie.Need-loop-smaller invariant-loop decreases-loop
-loop-less c = search rules
+loop_less : tie.Need-loop-smaller invariant_loop decreases_loop
+loop_less c = search rules
 
-loop-again : tie.Need-loop-preserved invariant-loop decreases-loop
-loop-again c = search rules
+loop_again : tie.Need-loop-preserved invariant_loop decreases_loop
+loop_again c = search rules
 
-returns : tie.Need-returns invariant-loop decreases-loop
+returns : tie.Need-returns invariant_loop decreases_loop
 returns c = search rules
 
-pub give-trades-spec : {M : Type 1} → statement M
-give-trades-spec =
+pub give_trades_spec : {M : Type 1} → statement M
+give_trades_spec =
     tie.close
     (tie.spec
-    invariant-loop
-    decreases-loop
-    between-requires
-    loop-holds
-    give-trade-requires
-    add-lot
-    loop-less
-    loop-again
+    invariant_loop
+    decreases_loop
+    between_requires
+    loop_holds
+    give_trade_requires
+    add_lot
+    loop_less
+    loop_again
     returns)

@@ -3,39 +3,39 @@ use Rattle.ledger_book.specs.Loops.{left}
 use Rattle.longrun_shortfalls.proofs.draws.take_money.Statement.{statement}
 use Rattle.longrun_shortfalls.proofs.draws.take_money.Tie as tie
 
-abbrev invariant-loop : tie.invariant-loop
-invariant-loop seed₀ image₀ account₀ seed image account = Unit {0}
+abbrev invariant_loop : tie.invariant-loop
+invariant_loop seed₀ image₀ account₀ seed image account = Unit {0}
 
-abbrev decreases-loop : tie.decreases-loop
-decreases-loop seed₀ image₀ account₀ seed image account = left account
+abbrev decreases_loop : tie.decreases-loop
+decreases_loop seed₀ image₀ account₀ seed image account = left account
 
-loop-holds : tie.Need-loop-init invariant-loop decreases-loop
-loop-holds c = search rules
+loop_holds : tie.Need-loop-init invariant_loop decreases_loop
+loop_holds c = search rules
 
-leave-little-requires : tie.Need-leave-little-requires invariant-loop decreases-loop
-leave-little-requires c κs = search rules
+leave_little_requires : tie.Need-leave-little-requires invariant_loop decreases_loop
+leave_little_requires c κs = search rules
 
-add-account : tie.Need-overflow-add-account invariant-loop decreases-loop
-add-account c = search rules
+add_account : tie.Need-overflow-add-account invariant_loop decreases_loop
+add_account c = search rules
 
-loop-less : tie.Need-loop-smaller invariant-loop decreases-loop
-loop-less c = search rules
+loop_less : tie.Need-loop-smaller invariant_loop decreases_loop
+loop_less c = search rules
 
-loop-again : tie.Need-loop-preserved invariant-loop decreases-loop
-loop-again c = search rules
+loop_again : tie.Need-loop-preserved invariant_loop decreases_loop
+loop_again c = search rules
 
-returns : tie.Need-returns invariant-loop decreases-loop
+returns : tie.Need-returns invariant_loop decreases_loop
 returns c = search rules
 
-pub take-money-spec : {M : Type 1} → statement M
-take-money-spec =
+pub take_money_spec : {M : Type 1} → statement M
+take_money_spec =
     tie.close
     (tie.spec
-    invariant-loop
-    decreases-loop
-    loop-holds
-    leave-little-requires
-    add-account
-    loop-less
-    loop-again
+    invariant_loop
+    decreases_loop
+    loop_holds
+    leave_little_requires
+    add_account
+    loop_less
+    loop_again
     returns)

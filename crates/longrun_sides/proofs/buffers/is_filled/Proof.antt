@@ -3,31 +3,31 @@ use Rattle.ledger_book.specs.Loops.{left}
 use Rattle.longrun_sides.proofs.buffers.is_filled.Statement.{statement}
 use Rattle.longrun_sides.proofs.buffers.is_filled.Tie as tie
 
-abbrev invariant-loop : tie.invariant-loop
-invariant-loop page start same₀ k₀ same k = Unit {0}
+abbrev invariant_loop : tie.invariant-loop
+invariant_loop page start same₀ k₀ same k = Unit {0}
 
-abbrev decreases-loop : tie.decreases-loop
-decreases-loop page start same₀ k₀ same k = left k
+abbrev decreases_loop : tie.decreases-loop
+decreases_loop page start same₀ k₀ same k = left k
 
-loop-holds : tie.Need-loop-init invariant-loop decreases-loop
-loop-holds c = search rules
+loop_holds : tie.Need-loop-init invariant_loop decreases_loop
+loop_holds c = search rules
 
-element-copy-out-same : tie.Need-element-copy-out-same invariant-loop decreases-loop
-element-copy-out-same c = search rules
+element_copy_out_same : tie.Need-element-copy-out-same invariant_loop decreases_loop
+element_copy_out_same c = search rules
 
-add-k : tie.Need-overflow-add-k invariant-loop decreases-loop
-add-k c = search rules
+add_k : tie.Need-overflow-add-k invariant_loop decreases_loop
+add_k c = search rules
 
-loop-less : tie.Need-loop-smaller invariant-loop decreases-loop
-loop-less c = search rules
+loop_less : tie.Need-loop-smaller invariant_loop decreases_loop
+loop_less c = search rules
 
-loop-again : tie.Need-loop-preserved invariant-loop decreases-loop
-loop-again c = search rules
+loop_again : tie.Need-loop-preserved invariant_loop decreases_loop
+loop_again c = search rules
 
-returns : tie.Need-returns invariant-loop decreases-loop
+returns : tie.Need-returns invariant_loop decreases_loop
 returns c = search rules
 
-pub is-filled-spec : {M : Type 1} → statement M
-is-filled-spec =
+pub is_filled_spec : {M : Type 1} → statement M
+is_filled_spec =
     tie.close
-    (tie.spec invariant-loop decreases-loop loop-holds element-copy-out-same add-k loop-less loop-again returns)
+    (tie.spec invariant_loop decreases_loop loop_holds element_copy_out_same add_k loop_less loop_again returns)

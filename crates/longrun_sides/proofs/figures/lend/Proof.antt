@@ -3,23 +3,23 @@ use Rattle.longrun_sides.specs.Lent.{lent}
 use Rattle.longrun_sides.proofs.figures.lend.Statement.{statement}
 use Rattle.longrun_sides.proofs.figures.lend.Tie as tie
 
-at-most-requires : tie.Need-at-most-requires
-at-most-requires c κs = search rules
+at_most_requires : tie.Need-at-most-requires
+at_most_requires c κs = search rules
 
-at-most-requires-2 : tie.Need-at-most-requires-2
-at-most-requires-2 c κs = search rules
+at_most_requires_2 : tie.Need-at-most-requires-2
+at_most_requires_2 c κs = search rules
 
-slice-aggregate-shortfalls-lent : tie.Need-slice-aggregate-shortfalls-lent
-slice-aggregate-shortfalls-lent c = search (rules, lent)
+slice_aggregate_shortfalls_lent : tie.Need-slice-aggregate-shortfalls-lent
+slice_aggregate_shortfalls_lent c = search (rules, lent)
 
-slice-relend-prefix-shortfalls-lent : tie.Need-slice-relend-prefix-shortfalls-lent
-slice-relend-prefix-shortfalls-lent c = search rules
+slice_relend_prefix_shortfalls_lent : tie.Need-slice-relend-prefix-shortfalls-lent
+slice_relend_prefix_shortfalls_lent c = search rules
 
-slice-aggregate-shortfalls-lent-2 : tie.Need-slice-aggregate-shortfalls-lent-2
-slice-aggregate-shortfalls-lent-2 c = search (rules, lent)
+slice_aggregate_shortfalls_lent_2 : tie.Need-slice-aggregate-shortfalls-lent-2
+slice_aggregate_shortfalls_lent_2 c = search (rules, lent)
 
-shortfalls-lent-requires : tie.Need-shortfalls-lent-requires
-shortfalls-lent-requires c κs = search rules
+shortfalls_lent_requires : tie.Need-shortfalls-lent-requires
+shortfalls_lent_requires c κs = search rules
 
 same_length : tie.Need-same-length
 same_length c = search rules
@@ -31,11 +31,11 @@ pub lend_spec : {M : Type 1} → statement M
 lend_spec =
     tie.close
     (tie.spec
-    at-most-requires
-    at-most-requires-2
-    slice-aggregate-shortfalls-lent
-    slice-relend-prefix-shortfalls-lent
-    slice-aggregate-shortfalls-lent-2
-    shortfalls-lent-requires
+    at_most_requires
+    at_most_requires_2
+    slice_aggregate_shortfalls_lent
+    slice_relend_prefix_shortfalls_lent
+    slice_aggregate_shortfalls_lent_2
+    shortfalls_lent_requires
     same_length
     returns)

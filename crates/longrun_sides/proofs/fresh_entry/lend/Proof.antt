@@ -3,17 +3,17 @@ use Rattle.longrun_sides.specs.Lent.{lent}
 use Rattle.longrun_sides.proofs.fresh_entry.lend.Statement.{statement}
 use Rattle.longrun_sides.proofs.fresh_entry.lend.Tie as tie
 
-at-most-requires : tie.Need-at-most-requires
-at-most-requires c κs = search rules
+at_most_requires : tie.Need-at-most-requires
+at_most_requires c κs = search rules
 
-slice-relend-prefix-fresh-lent : tie.Need-slice-relend-prefix-fresh-lent
-slice-relend-prefix-fresh-lent c = search rules
+slice_relend_prefix_fresh_lent : tie.Need-slice-relend-prefix-fresh-lent
+slice_relend_prefix_fresh_lent c = search rules
 
-slice-aggregate-fresh-lent : tie.Need-slice-aggregate-fresh-lent
-slice-aggregate-fresh-lent c = search (rules, lent)
+slice_aggregate_fresh_lent : tie.Need-slice-aggregate-fresh-lent
+slice_aggregate_fresh_lent c = search (rules, lent)
 
-fresh-lent-requires : tie.Need-fresh-lent-requires
-fresh-lent-requires c κs = search rules
+fresh_lent_requires : tie.Need-fresh-lent-requires
+fresh_lent_requires c κs = search rules
 
 same_length : tie.Need-same-length
 same_length c = search rules
@@ -25,9 +25,9 @@ pub lend_spec : {M : Type 1} → statement M
 lend_spec =
     tie.close
     (tie.spec
-    at-most-requires
-    slice-relend-prefix-fresh-lent
-    slice-aggregate-fresh-lent
-    fresh-lent-requires
+    at_most_requires
+    slice_relend_prefix_fresh_lent
+    slice_aggregate_fresh_lent
+    fresh_lent_requires
     same_length
     returns)

@@ -3,51 +3,51 @@ use Rattle.ledger_book.specs.Loops.{left}
 use Rattle.longrun_tables.proofs.edges.missed_holders.Statement.{statement}
 use Rattle.longrun_tables.proofs.edges.missed_holders.Tie as tie
 
-abbrev invariant-loop : tie.invariant-loop
-invariant-loop tally missed₀ k₀ missed k = Unit {0}
+abbrev invariant_loop : tie.invariant-loop
+invariant_loop tally missed₀ k₀ missed k = Unit {0}
 
-abbrev decreases-loop : tie.decreases-loop
-decreases-loop tally missed₀ k₀ missed k = left k
+abbrev decreases_loop : tie.decreases-loop
+decreases_loop tally missed₀ k₀ missed k = left k
 
-loop-holds : tie.Need-loop-init invariant-loop decreases-loop
-loop-holds c = search rules
+loop_holds : tie.Need-loop-init invariant_loop decreases_loop
+loop_holds c = search rules
 
-product-requires : tie.Need-product-requires invariant-loop decreases-loop
-product-requires c κs = search rules
+product_requires : tie.Need-product-requires invariant_loop decreases_loop
+product_requires c κs = search rules
 
-plus-requires : tie.Need-plus-requires invariant-loop decreases-loop
-plus-requires c κs = search rules
+plus_requires : tie.Need-plus-requires invariant_loop decreases_loop
+plus_requires c κs = search rules
 
-is-missed-requires : tie.Need-is-missed-requires invariant-loop decreases-loop
-is-missed-requires c κs = search rules
+is_missed_requires : tie.Need-is-missed-requires invariant_loop decreases_loop
+is_missed_requires c κs = search rules
 
-plus-requires-2 : tie.Need-plus-requires-2 invariant-loop decreases-loop
-plus-requires-2 c κs = search rules
+plus_requires_2 : tie.Need-plus-requires-2 invariant_loop decreases_loop
+plus_requires_2 c κs = search rules
 
-add-k : tie.Need-overflow-add-k invariant-loop decreases-loop
-add-k c = search rules
+add_k : tie.Need-overflow-add-k invariant_loop decreases_loop
+add_k c = search rules
 
-loop-less : tie.Need-loop-smaller invariant-loop decreases-loop
-loop-less c = search rules
+loop_less : tie.Need-loop-smaller invariant_loop decreases_loop
+loop_less c = search rules
 
-loop-again : tie.Need-loop-preserved invariant-loop decreases-loop
-loop-again c = search rules
+loop_again : tie.Need-loop-preserved invariant_loop decreases_loop
+loop_again c = search rules
 
-returns : tie.Need-returns invariant-loop decreases-loop
+returns : tie.Need-returns invariant_loop decreases_loop
 returns c = search rules
 
-pub missed-holders-spec : {M : Type 1} → statement M
-missed-holders-spec =
+pub missed_holders_spec : {M : Type 1} → statement M
+missed_holders_spec =
     tie.close
     (tie.spec
-    invariant-loop
-    decreases-loop
-    loop-holds
-    product-requires
-    plus-requires
-    is-missed-requires
-    plus-requires-2
-    add-k
-    loop-less
-    loop-again
+    invariant_loop
+    decreases_loop
+    loop_holds
+    product_requires
+    plus_requires
+    is_missed_requires
+    plus_requires_2
+    add_k
+    loop_less
+    loop_again
     returns)

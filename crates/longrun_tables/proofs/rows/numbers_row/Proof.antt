@@ -3,55 +3,55 @@ use Rattle.ledger_book.specs.Loops.{left}
 use Rattle.longrun_tables.proofs.rows.numbers_row.Statement.{statement}
 use Rattle.longrun_tables.proofs.rows.numbers_row.Tie as tie
 
-abbrev invariant-loop : tie.invariant-loop
-invariant-loop number₀ t3 number = Unit {0}
+abbrev invariant_loop : tie.invariant-loop
+invariant_loop number₀ t3 number = Unit {0}
 
-abbrev decreases-loop : tie.decreases-loop
-decreases-loop number₀ t3 number = left number
+abbrev decreases_loop : tie.decreases-loop
+decreases_loop number₀ t3 number = left number
 
-slice-aggregate-write-all : tie.Need-slice-aggregate-write-all invariant-loop decreases-loop
-slice-aggregate-write-all c = search rules
+slice_aggregate_write_all : tie.Need-slice-aggregate-write-all invariant_loop decreases_loop
+slice_aggregate_write_all c = search rules
 
-write-all-requires : tie.Need-write-all-requires invariant-loop decreases-loop
-write-all-requires c κs = search rules
+write_all_requires : tie.Need-write-all-requires invariant_loop decreases_loop
+write_all_requires c κs = search rules
 
-loop-holds : tie.Need-loop-init invariant-loop decreases-loop
-loop-holds c = search rules
+loop_holds : tie.Need-loop-init invariant_loop decreases_loop
+loop_holds c = search rules
 
-aligned-requires : tie.Need-aligned-requires invariant-loop decreases-loop
-aligned-requires c κs = search rules
+aligned_requires : tie.Need-aligned-requires invariant_loop decreases_loop
+aligned_requires c κs = search rules
 
-add-number : tie.Need-overflow-add-number invariant-loop decreases-loop
-add-number c = search rules
+add_number : tie.Need-overflow-add-number invariant_loop decreases_loop
+add_number c = search rules
 
-loop-less : tie.Need-loop-smaller invariant-loop decreases-loop
-loop-less c = search rules
+loop_less : tie.Need-loop-smaller invariant_loop decreases_loop
+loop_less c = search rules
 
-loop-again : tie.Need-loop-preserved invariant-loop decreases-loop
-loop-again c = search rules
+loop_again : tie.Need-loop-preserved invariant_loop decreases_loop
+loop_again c = search rules
 
-slice-aggregate-write-all-2 : tie.Need-slice-aggregate-write-all-2 invariant-loop decreases-loop
-slice-aggregate-write-all-2 c = search rules
+slice_aggregate_write_all_2 : tie.Need-slice-aggregate-write-all-2 invariant_loop decreases_loop
+slice_aggregate_write_all_2 c = search rules
 
-write-all-requires-2 : tie.Need-write-all-requires-2 invariant-loop decreases-loop
-write-all-requires-2 c κs = search rules
+write_all_requires_2 : tie.Need-write-all-requires-2 invariant_loop decreases_loop
+write_all_requires_2 c κs = search rules
 
-returns : tie.Need-returns invariant-loop decreases-loop
+returns : tie.Need-returns invariant_loop decreases_loop
 returns c = search rules
 
-pub numbers-row-spec : {M : Type 1} → statement M
-numbers-row-spec =
+pub numbers_row_spec : {M : Type 1} → statement M
+numbers_row_spec =
     tie.close
     (tie.spec
-    invariant-loop
-    decreases-loop
-    slice-aggregate-write-all
-    write-all-requires
-    loop-holds
-    aligned-requires
-    add-number
-    loop-less
-    loop-again
-    slice-aggregate-write-all-2
-    write-all-requires-2
+    invariant_loop
+    decreases_loop
+    slice_aggregate_write_all
+    write_all_requires
+    loop_holds
+    aligned_requires
+    add_number
+    loop_less
+    loop_again
+    slice_aggregate_write_all_2
+    write_all_requires_2
     returns)

@@ -3,59 +3,59 @@ use Rattle.ledger_book.specs.Loops.{left}
 use Rattle.longrun_tables.proofs.rows.row.Statement.{statement}
 use Rattle.longrun_tables.proofs.rows.row.Tie as tie
 
-abbrev invariant-loop : tie.invariant-loop
-invariant-loop tally name place width k₀ t6 k = Unit {0}
+abbrev invariant_loop : tie.invariant-loop
+invariant_loop tally name place width k₀ t6 k = Unit {0}
 
-abbrev decreases-loop : tie.decreases-loop
-decreases-loop tally name place width k₀ t6 k = left k
+abbrev decreases_loop : tie.decreases-loop
+decreases_loop tally name place width k₀ t6 k = left k
 
-aligned-requires : tie.Need-aligned-requires invariant-loop decreases-loop
-aligned-requires c κs = search rules
+aligned_requires : tie.Need-aligned-requires invariant_loop decreases_loop
+aligned_requires c κs = search rules
 
-loop-holds : tie.Need-loop-init invariant-loop decreases-loop
-loop-holds c = search rules
+loop_holds : tie.Need-loop-init invariant_loop decreases_loop
+loop_holds c = search rules
 
-plus-requires : tie.Need-plus-requires invariant-loop decreases-loop
-plus-requires c κs = search rules
+plus_requires : tie.Need-plus-requires invariant_loop decreases_loop
+plus_requires c κs = search rules
 
-counted-requires : tie.Need-counted-requires invariant-loop decreases-loop
-counted-requires c κs = search rules
+counted_requires : tie.Need-counted-requires invariant_loop decreases_loop
+counted_requires c κs = search rules
 
-aligned-requires-2 : tie.Need-aligned-requires-2 invariant-loop decreases-loop
-aligned-requires-2 c κs = search rules
+aligned_requires_2 : tie.Need-aligned-requires-2 invariant_loop decreases_loop
+aligned_requires_2 c κs = search rules
 
-add-k : tie.Need-overflow-add-k invariant-loop decreases-loop
-add-k c = search rules
+add_k : tie.Need-overflow-add-k invariant_loop decreases_loop
+add_k c = search rules
 
-loop-less : tie.Need-loop-smaller invariant-loop decreases-loop
-loop-less c = search rules
+loop_less : tie.Need-loop-smaller invariant_loop decreases_loop
+loop_less c = search rules
 
-loop-again : tie.Need-loop-preserved invariant-loop decreases-loop
-loop-again c = search rules
+loop_again : tie.Need-loop-preserved invariant_loop decreases_loop
+loop_again c = search rules
 
-slice-aggregate-write-all : tie.Need-slice-aggregate-write-all invariant-loop decreases-loop
-slice-aggregate-write-all c = search rules
+slice_aggregate_write_all : tie.Need-slice-aggregate-write-all invariant_loop decreases_loop
+slice_aggregate_write_all c = search rules
 
-write-all-requires : tie.Need-write-all-requires invariant-loop decreases-loop
-write-all-requires c κs = search rules
+write_all_requires : tie.Need-write-all-requires invariant_loop decreases_loop
+write_all_requires c κs = search rules
 
-returns : tie.Need-returns invariant-loop decreases-loop
+returns : tie.Need-returns invariant_loop decreases_loop
 returns c = search rules
 
-pub row-spec : {M : Type 1} → statement M
-row-spec =
+pub row_spec : {M : Type 1} → statement M
+row_spec =
     tie.close
     (tie.spec
-    invariant-loop
-    decreases-loop
-    aligned-requires
-    loop-holds
-    plus-requires
-    counted-requires
-    aligned-requires-2
-    add-k
-    loop-less
-    loop-again
-    slice-aggregate-write-all
-    write-all-requires
+    invariant_loop
+    decreases_loop
+    aligned_requires
+    loop_holds
+    plus_requires
+    counted_requires
+    aligned_requires_2
+    add_k
+    loop_less
+    loop_again
+    slice_aggregate_write_all
+    write_all_requires
     returns)
