@@ -5,6 +5,8 @@
 // its calls made one by one. Now and then both are asked for shortfalls. The fresh entry is compared for buffers of all lengths.
 //
 // The last line counts the differences.
+#![tactic(auto)]
+
 mod runs;
 
 use ledger_book::{ACCOUNTS, LAST_DAY, RECEIPTS};
@@ -13,6 +15,7 @@ use longrun_calls::{EACH_CONTRACT, NO_OPENING, ONE_CONTRACT, Plan, TO_LIMIT};
 use longrun_counts::{Tally, empty_tally};
 use longrun_shortfalls::print_shortfalls;
 use longrun_tables::{print_differences, print_reached};
+use std::io;
 
 fn plan(seed: u64, calls: u64, receipts: u64, accounts: u64, closes: u64) -> Plan {
     Plan {
@@ -27,39 +30,39 @@ fn plan(seed: u64, calls: u64, receipts: u64, accounts: u64, closes: u64) -> Pla
 }
 
 // Few lots and accounts, so that most calls meet lots in the middle of their way.
-fn small_zones(tally: &mut Tally) {
-    runs::run(plan(11400714819323198485, 16000, 24, 8, 40), tally);
-    runs::run(plan(15111557264842353923, 14000, 40, 12, 30), tally);
-    runs::run(plan(2685821657736338717, 18000, 8, 3, 60), tally);
+fn small_zones(rt: &impl Print, tally: &mut Tally) -> io::Result<()> {
+    runs::run(rt, plan(11400714819323198485, 16000, 24, 8, 40), tally)?;
+    runs::run(rt, plan(15111557264842353923, 14000, 40, 12, 30), tally)?;
+    runs::run(rt, plan(2685821657736338717, 18000, 8, 3, 60), tally)
 }
 
 // All lots go through closes and quotes first, so that answers are full. The calls after that draw from all receipts and accounts in
 // one run, from half and a quarter of them in the other.
-fn long_answers(tally: &mut Tally) {
+fn long_answers(rt: &impl Print, tally: &mut Tally) -> io::Result<()> {
     let mut all = plan(10140107109312335319, 12000, RECEIPTS, ACCOUNTS, 12);
     all.opening = ONE_CONTRACT;
-    runs::run(all, tally);
+    runs::run(rt, all, tally)?;
     let mut half = plan(6364136223846793005, 12000, RECEIPTS / 2, ACCOUNTS / 4, 20);
     half.opening = EACH_CONTRACT;
-    runs::run(half, tally);
+    runs::run(rt, half, tally)
 }
 
 // Money up to the limit, and the last days that a zone has.
-fn last_days(tally: &mut Tally) {
+fn last_days(rt: &impl Print, tally: &mut Tally) -> io::Result<()> {
     let mut late = plan(12605985483714917081, 12000, 24, 6, 40);
     late.day = LAST_DAY - 150;
     late.opening = TO_LIMIT;
-    runs::run(late, tally);
+    runs::run(rt, late, tally)
 }
 
-fn main() {
+fn main(rt: HostRuntime) -> io::Result<()> {
     let mut tally: Tally = empty_tally();
-    runs::all_lengths(&mut tally);
-    small_zones(&mut tally);
-    long_answers(&mut tally);
-    last_days(&mut tally);
-    print_reached(&tally);
-    print_call_tables(&tally);
-    print_shortfalls(&tally);
-    print_differences(&tally);
+    runs::all_lengths(&rt, &mut tally)?;
+    small_zones(&rt, &mut tally)?;
+    long_answers(&rt, &mut tally)?;
+    last_days(&rt, &mut tally)?;
+    print_reached(&rt, &tally)?;
+    print_call_tables(&rt, &tally)?;
+    print_shortfalls(&rt, &tally)?;
+    print_differences(&rt, &tally)
 }

@@ -12,6 +12,7 @@ use longrun_draws::{
     ANSWERS_TOO_SHORT, CallTable, RECORD_CUT_SHORT, TOO_MANY_CALLS, answers_wanted, calls_in,
     reasons, rest_of,
 };
+use std::io;
 
 // ── Lengths ─────────────────────────────────────────────────────────────────────────────────────
 
@@ -140,12 +141,13 @@ fn goes_on(calls: u64, answers: &Answers) -> bool {
 
 // Counts a table that was driven, with the library's answers. `bad_image` is what its calls say of the image by themselves.
 pub fn count_table(
+    rt: &impl Print,
     t: CallTable,
     v: Verdict,
     bad_image: bool,
     answers: &Answers,
     tally: &mut Tally,
-) {
+) -> io::Result<()> {
     let number = v.of_library;
     add(tally, CALL_TABLES, 1);
     count_size(t, number, bad_image, tally);
@@ -162,10 +164,11 @@ pub fn count_table(
         count_bad_image(t, tally);
     }
     show(
-        b"difference at a table of calls after call ",
-        b"  calls in it ",
+        rt,
+        "difference at a table of calls after call ",
+        "  calls in it ",
         calls_in(t),
         v,
         tally,
-    );
+    )
 }

@@ -1,4 +1,6 @@
 // Tables of calls in the long runs (02 5/12): drawn, counted by what they reach, and written as rows.
+#![tactic(auto)]
+
 mod counts;
 mod draws;
 mod rows;

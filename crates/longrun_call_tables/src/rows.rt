@@ -6,6 +6,7 @@ use longrun_counts::{
     TABLE_NUMBERS, TABLE_OUTCOMES, TABLE_REASONS, TABLE_RESTS, TABLE_SIZES, Tally, counted, line,
 };
 use longrun_tables::{numbered_rows, unnamed_row};
+use std::io;
 
 // ── What no table reached ───────────────────────────────────────────────────────────────────────
 
@@ -32,63 +33,67 @@ fn missed_edges(tally: &Tally) -> u64 {
 
 // ── Rows ────────────────────────────────────────────────────────────────────────────────────────
 
-fn print_sizes(tally: &Tally) {
-    io::write_all(
-        1,
-        b"by calls in them (0, 1, 2 to 31, 32, 33 and more): taken, on a bad image, refused by 14, on a bad image\n",
-    );
-    numbered_rows(tally, 0, 3, TABLE_SIZES, COUNTS_OF_SIZE);
+fn print_sizes(rt: &impl Print, tally: &Tally) -> io::Result<()> {
+    println!(rt;
+        "by calls in them (0, 1, 2 to 31, 32, 33 and more): taken, on a bad image, refused by 14, on a bad image"
+    )?;
+    numbered_rows(rt, tally, 0, 3, TABLE_SIZES, COUNTS_OF_SIZE)?;
     numbered_rows(
+        rt,
         tally,
         MOST_CALLS,
         MOST_CALLS + 2,
         TABLE_SIZES + 3 * COUNTS_OF_SIZE,
         COUNTS_OF_SIZE,
-    );
+    )
 }
 
-fn print_images(tally: &Tally) {
-    io::write_all(
-        1,
-        b"taken with calls on a bad image: of another length, not valid\n",
-    );
-    unnamed_row(tally, TABLE_IMAGES, BAD_IMAGES);
+fn print_images(rt: &impl Print, tally: &Tally) -> io::Result<()> {
+    println!(rt; "taken with calls on a bad image: of another length, not valid")?;
+    unnamed_row(rt, tally, TABLE_IMAGES, BAD_IMAGES)
 }
 
-fn print_reasons(tally: &Tally) {
-    io::write_all(
+fn print_reasons(rt: &impl Print, tally: &Tally) -> io::Result<()> {
+    println!(rt;
+        "refused by 14, for too many calls, a record cut short, answers too short, several of these: on a valid image, on a bad one"
+    )?;
+    numbered_rows(
+        rt,
+        tally,
         1,
-        b"refused by 14, for too many calls, a record cut short, answers too short, several of these: on a valid image, on a bad one\n",
-    );
-    numbered_rows(tally, 1, REASON_ROWS + 1, TABLE_REASONS, COUNTS_OF_REASON);
-    io::write_all(1, b"for a record cut short, of 1 to 23 bytes\n");
-    unnamed_row(tally, TABLE_RESTS, RESTS);
-    io::write_all(
-        1,
-        b"bytes for answers: two or more too few, one too few, exact, less than an answer to spare, more\n",
-    );
-    unnamed_row(tally, TABLE_ANSWERS, ANSWER_CLASSES);
+        REASON_ROWS + 1,
+        TABLE_REASONS,
+        COUNTS_OF_REASON,
+    )?;
+    println!(rt; "for a record cut short, of 1 to 23 bytes")?;
+    unnamed_row(rt, tally, TABLE_RESTS, RESTS)?;
+    println!(rt;
+        "bytes for answers: two or more too few, one too few, exact, less than an answer to spare, more"
+    )?;
+    unnamed_row(rt, tally, TABLE_ANSWERS, ANSWER_CLASSES)
 }
 
-fn print_answers(tally: &Tally) {
-    io::write_all(1, b"calls in tables that were taken, by number from 0 on\n");
-    unnamed_row(tally, TABLE_NUMBERS, NUMBERS);
-    io::write_all(1, b"their entries, by outcome from 1 on\n");
-    unnamed_row(tally, TABLE_OUTCOMES, CALL_TABLES_END - TABLE_OUTCOMES);
+fn print_answers(rt: &impl Print, tally: &Tally) -> io::Result<()> {
+    println!(rt; "calls in tables that were taken, by number from 0 on")?;
+    unnamed_row(rt, tally, TABLE_NUMBERS, NUMBERS)?;
+    println!(rt; "their entries, by outcome from 1 on")?;
+    unnamed_row(rt, tally, TABLE_OUTCOMES, CALL_TABLES_END - TABLE_OUTCOMES)?;
     line(
-        b"tables with an accepted call behind a refused one: ",
+        rt,
+        "tables with an accepted call behind a refused one: ",
         counted(tally, ACCEPTED_BEHIND),
-    );
+    )
 }
 
-pub fn print_call_tables(tally: &Tally) {
-    line(b"tables of calls driven: ", counted(tally, CALL_TABLES));
-    print_sizes(tally);
-    print_images(tally);
-    print_reasons(tally);
-    print_answers(tally);
+pub fn print_call_tables(rt: &impl Print, tally: &Tally) -> io::Result<()> {
+    line(rt, "tables of calls driven: ", counted(tally, CALL_TABLES))?;
+    print_sizes(rt, tally)?;
+    print_images(rt, tally)?;
+    print_reasons(rt, tally)?;
+    print_answers(rt, tally)?;
     line(
-        b"edges of tables of calls that no table reached: ",
+        rt,
+        "edges of tables of calls that no table reached: ",
         missed_edges(tally),
-    );
+    )
 }

@@ -13,6 +13,7 @@ use ledger_book::{
     RECEIPTS, STATE, minus, page_cell, page_field, plus, signed,
 };
 use longrun_draws::Request;
+use std::io;
 
 // ── Entries ─────────────────────────────────────────────────────────────────────────────────────
 
@@ -131,7 +132,7 @@ fn count_contract(q: Request, image: &Page, answer: &Page, tally: &mut Tally) {
 // ── Differences ─────────────────────────────────────────────────────────────────────────────────
 
 // The total before the call, both numbers, and whether number, image and answer are as they must be.
-#[derive(Drop)]
+#[derive(Clone, Copy)]
 pub struct Verdict {
     pub total: u64,
     pub of_library: u64,
@@ -146,16 +147,24 @@ fn count_difference(tally: &mut Tally) -> bool {
 }
 
 // After how many calls of all runs, something told of what was made, and both numbers.
-pub fn show(words: &[u8], told: &[u8], value: u64, v: Verdict, tally: &mut Tally) {
+pub fn show(
+    rt: &impl Print,
+    words: &str,
+    told: &str,
+    value: u64,
+    v: Verdict,
+    tally: &mut Tally,
+) -> io::Result<()> {
     if v.agree {
-        return;
+        return Ok(());
     }
     if count_difference(tally) {
-        line(words, counted(tally, CALLS));
-        line(told, value);
-        line(b"  number of the library ", v.of_library);
-        line(b"  number of the ledger ", v.of_ledger);
+        line(rt, words, counted(tally, CALLS))?;
+        line(rt, told, value)?;
+        line(rt, "  number of the library ", v.of_library)?;
+        line(rt, "  number of the ledger ", v.of_ledger)?;
     }
+    Ok(())
 }
 
 // ── All ─────────────────────────────────────────────────────────────────────────────────────────
@@ -171,13 +180,14 @@ fn kind_row(kind: u64) -> u64 {
 
 // Counts a call that was driven; image and answer are as they are after it.
 pub fn count_call(
+    rt: &impl Print,
     q: Request,
     v: Verdict,
     before: &Page,
     image: &Page,
     answer: &Page,
     tally: &mut Tally,
-) {
+) -> io::Result<()> {
     let number = v.of_library;
     add(tally, CALLS, 1);
     add(tally, pair(kind_row(q.kind), number), 1);
@@ -189,12 +199,19 @@ pub fn count_call(
     if (number == 0) & (q.kind == 14) {
         count_part(q, before, answer, tally);
     }
-    show(b"difference at call ", b"  kind ", q.kind % 256, v, tally);
+    show(rt, "difference at call ", "  kind ", q.kind % 256, v, tally)
 }
 
 // Apart from the others: what an altered image answers says little of how often a rule is reached. `sound` is the image before it was
 // altered.
-pub fn count_altered(q: Request, v: Verdict, sound: &Page, altered: &Page, tally: &mut Tally) {
+pub fn count_altered(
+    rt: &impl Print,
+    q: Request,
+    v: Verdict,
+    sound: &Page,
+    altered: &Page,
+    tally: &mut Tally,
+) -> io::Result<()> {
     let number = v.of_library;
     count_limits(q, altered, v.total, number, tally);
     count_premiums(sound, altered, number, tally);
@@ -206,19 +223,26 @@ pub fn count_altered(q: Request, v: Verdict, sound: &Page, altered: &Page, tally
         add(tally, VALID_IMAGES, 1);
     }
     show(
-        b"difference at an altered image after call ",
-        b"  kind ",
+        rt,
+        "difference at an altered image after call ",
+        "  kind ",
         q.kind % 256,
         v,
         tally,
-    );
+    )
 }
 
-pub fn count_fresh(length: usize, agree: bool, tally: &mut Tally) {
+pub fn count_fresh(
+    rt: &impl Print,
+    length: usize,
+    agree: bool,
+    tally: &mut Tally,
+) -> io::Result<()> {
     add(tally, FRESH, 1);
     if !agree {
         if count_difference(tally) {
-            line(b"difference at the fresh entry, length ", length as u64);
+            line(rt, "difference at the fresh entry, length ", length as u64)?;
         }
     }
+    Ok(())
 }

@@ -1,4 +1,6 @@
 // What the long runs reach, counted call by call.
+#![tactic(auto)]
+
 mod counts;
 mod limits;
 mod lines;

@@ -1,5 +1,7 @@
 // Tables of calls. Each call is made by itself first, on a copy of the image: the image and the answers that this leaves are what the table
 // must leave (02 5/12).
+#![tactic(auto)]
+
 use ledger_book::{Answers, MOST_CALLS, Page, empty_page, plus, product, put_answer, put_record};
 use longrun_call_tables::{call_in_table, count_table, some_table, table_of};
 use longrun_calls::{Plan, opening_calls};
@@ -7,11 +9,13 @@ use longrun_counts::{Tally, Verdict, count_call, show};
 use longrun_draws::{CallTable, Request, calls_in, percent, request_of};
 use longrun_sides::{drive, drive_table, filled, filled_answers, record_of};
 use longrun_wild::alter;
+use std::io;
 
 // ── Calls by themselves ─────────────────────────────────────────────────────────────────────────
 
 // On an altered image a call is not counted, only shown where both sides differ.
 fn count_alone(
+    rt: &impl Print,
     altered: bool,
     q: Request,
     v: Verdict,
@@ -19,22 +23,23 @@ fn count_alone(
     image: &Page,
     answer: &Page,
     tally: &mut Tally,
-) {
+) -> io::Result<()> {
     if altered {
-        show(
-            b"difference at an altered image after call ",
-            b"  kind ",
+        return show(
+            rt,
+            "difference at an altered image after call ",
+            "  kind ",
             q.kind % 256,
             v,
             tally,
         );
-        return;
     }
-    count_call(q, v, before, image, answer, tally);
+    count_call(rt, q, v, before, image, answer, tally)
 }
 
 // The table's call with this number, made by itself; its record and its answer go to their places.
 fn make_alone(
+    rt: &impl Print,
     q: Request,
     altered: bool,
     k: u64,
@@ -42,7 +47,7 @@ fn make_alone(
     calls: &mut Page,
     answers: &mut Answers,
     tally: &mut Tally,
-) {
+) -> io::Result<()> {
     let before: Page = *image;
     let mut second: Page = *image;
     let mut answer: Page = filled();
@@ -50,11 +55,12 @@ fn make_alone(
     let v = drive(q, image, &mut second, &mut answer);
     put_record(calls, k, &record);
     put_answer(answers, k, &answer);
-    count_alone(altered, q, v, &before, image, &answer, tally);
+    count_alone(rt, altered, q, v, &before, image, &answer, tally)
 }
 
 // Each is the run's next call from number `first` on, drawn by the image that it will find where the opening has none.
 fn make_each_alone(
+    rt: &impl Print,
     seed: &mut u64,
     plan: Plan,
     t: CallTable,
@@ -64,11 +70,12 @@ fn make_each_alone(
     calls: &mut Page,
     answers: &mut Answers,
     tally: &mut Tally,
-) {
+) -> io::Result<()> {
     for k in 0..calls_in(t) {
         let q = call_in_table(seed, plan, t, plus(first, k), image);
-        make_alone(q, altered, k, image, calls, answers, tally);
+        make_alone(rt, q, altered, k, image, calls, answers, tally)?;
     }
+    Ok(())
 }
 
 // Whether a call on as much of the image as the table lends has number 2. One of no kind has 3 on a valid image.
@@ -85,6 +92,7 @@ fn is_bad_image(t: CallTable, image: &Page) -> bool {
 // ── Tables ──────────────────────────────────────────────────────────────────────────────────────
 
 fn hand_over(
+    rt: &impl Print,
     t: CallTable,
     calls: &Page,
     wanted: &Page,
@@ -92,7 +100,7 @@ fn hand_over(
     image: &mut Page,
     second: &mut Page,
     tally: &mut Tally,
-) {
+) -> io::Result<()> {
     let bad_image = is_bad_image(t, image);
     let mut answers: Answers = filled_answers();
     let v = drive_table(
@@ -104,10 +112,11 @@ fn hand_over(
         second,
         &mut answers,
     );
-    count_table(t, v, bad_image, &answers, tally);
+    count_table(rt, t, v, bad_image, &answers, tally)
 }
 
 fn make_table(
+    rt: &impl Print,
     seed: &mut u64,
     plan: Plan,
     t: CallTable,
@@ -116,11 +125,12 @@ fn make_table(
     image: &mut Page,
     second: &mut Page,
     tally: &mut Tally,
-) {
+) -> io::Result<()> {
     let mut wanted: Page = *image;
     let mut calls: Page = empty_page();
     let mut answers: Answers = filled_answers();
     make_each_alone(
+        rt,
         seed,
         plan,
         t,
@@ -130,28 +140,29 @@ fn make_table(
         &mut calls,
         &mut answers,
         tally,
-    );
-    hand_over(t, &calls, &wanted, &answers, image, second, tally);
+    )?;
+    hand_over(rt, t, &calls, &wanted, &answers, image, second, tally)
 }
 
 // On the run's own image, or on an altered copy; the run then goes on with the image as it was.
 pub fn make_some_table(
+    rt: &impl Print,
     seed: &mut u64,
     plan: Plan,
     image: &mut Page,
     second: &mut Page,
     tally: &mut Tally,
-) {
+) -> io::Result<()> {
     let t = some_table(seed);
     let opened = opening_calls(plan.opening);
     if percent(seed, 75) {
-        make_table(seed, plan, t, opened, false, image, second, tally);
-        return;
+        return make_table(rt, seed, plan, t, opened, false, image, second, tally);
     }
     let mut copy: Page = *image;
     alter(seed, plan, &mut copy);
     let mut second_copy: Page = copy;
     make_table(
+        rt,
         seed,
         plan,
         t,
@@ -160,15 +171,23 @@ pub fn make_some_table(
         &mut copy,
         &mut second_copy,
         tally,
-    );
+    )
 }
 
 // The calls of the run's opening, as many to a table as there may be.
-pub fn open(seed: &mut u64, plan: Plan, image: &mut Page, second: &mut Page, tally: &mut Tally) {
+pub fn open(
+    rt: &impl Print,
+    seed: &mut u64,
+    plan: Plan,
+    image: &mut Page,
+    second: &mut Page,
+    tally: &mut Tally,
+) -> io::Result<()> {
     let t = table_of(MOST_CALLS);
     let tables = plus(opening_calls(plan.opening), MOST_CALLS - 1) / MOST_CALLS;
     for k in 0..tables {
         let first = product(k, MOST_CALLS);
-        make_table(seed, plan, t, first, false, image, second, tally);
+        make_table(rt, seed, plan, t, first, false, image, second, tally)?;
     }
+    Ok(())
 }

@@ -8,35 +8,44 @@ use longrun_counts::{PAID_FIGURES, PAID_LESS, Tally, Verdict, add, entries_in, s
 use longrun_draws::{Request, below, request_of};
 use longrun_shortfalls::{Owing, class_of, is_trade};
 use longrun_sides::{drive, filled};
+use std::io;
 
 // ── The close ───────────────────────────────────────────────────────────────────────────────────
 
-fn make(q: Request, image: &mut Page, answer: &mut Page, tally: &mut Tally) -> Verdict {
+fn make(
+    rt: &impl Print,
+    q: Request,
+    image: &mut Page,
+    answer: &mut Page,
+    tally: &mut Tally,
+) -> io::Result<Verdict> {
     let mut second: Page = *image;
     *answer = filled();
     let v = drive(q, image, &mut second, answer);
     show(
-        b"difference at a figure paid in after call ",
-        b"  kind ",
+        rt,
+        "difference at a figure paid in after call ",
+        "  kind ",
         q.kind,
         v,
         tally,
-    );
-    v
+    )?;
+    Ok(v)
 }
 
 // Pays in and closes. Whether both were done: the zone may be full. A pay-in of no fen is refused and changes nothing, so that the close is
 // the first call.
 fn pay_and_close(
+    rt: &impl Print,
     account: u64,
     fen: u64,
     image: &mut Page,
     answer: &mut Page,
     tally: &mut Tally,
-) -> bool {
-    let paid = make(request_of(1, account, 0, fen), image, answer, tally);
-    let closed = make(request_of(11, 0, 0, 0), image, answer, tally);
-    ((paid.of_library == 0) | (fen == 0)) & (closed.of_library == 0)
+) -> io::Result<bool> {
+    let paid = make(rt, request_of(1, account, 0, fen), image, answer, tally)?;
+    let closed = make(rt, request_of(11, 0, 0, 0), image, answer, tally)?;
+    Ok(((paid.of_library == 0) | (fen == 0)) & (closed.of_library == 0))
 }
 
 fn is_default(answer: &Page, k: u64, account: u64) -> bool {
@@ -57,7 +66,13 @@ fn default_of(answer: &Page, account: u64) -> u64 {
 }
 
 // Shows a close in which the account has defaulted where it must not, or has not where it must.
-fn judge(wanted: u64, found: u64, account: u64, tally: &mut Tally) {
+fn judge(
+    rt: &impl Print,
+    wanted: u64,
+    found: u64,
+    account: u64,
+    tally: &mut Tally,
+) -> io::Result<()> {
     let v = Verdict {
         total: 0,
         of_library: found,
@@ -65,23 +80,32 @@ fn judge(wanted: u64, found: u64, account: u64, tally: &mut Tally) {
         agree: found == wanted,
     };
     show(
-        b"wrong default (numbers: the lot found, the lot wanted) after call ",
-        b"  account ",
+        rt,
+        "wrong default (numbers: the lot found, the lot wanted) after call ",
+        "  account ",
         account,
         v,
         tally,
-    );
+    )
 }
 
 // ── The figure ──────────────────────────────────────────────────────────────────────────────────
 
-fn pay_figure(image: &Page, owing: &Owing, account: u64, figure: u64, tally: &mut Tally) {
+fn pay_figure(
+    rt: &impl Print,
+    image: &Page,
+    owing: &Owing,
+    account: u64,
+    figure: u64,
+    tally: &mut Tally,
+) -> io::Result<()> {
     let mut copy: Page = *image;
     let mut answer: Page = filled();
-    if pay_and_close(account, figure, &mut copy, &mut answer, tally) {
+    if pay_and_close(rt, account, figure, &mut copy, &mut answer, tally)? {
         add(tally, plus(PAID_FIGURES, class_of(owing, account)), 1);
-        judge(0, default_of(&answer, account), account, tally);
+        judge(rt, 0, default_of(&answer, account), account, tally)?;
     }
+    Ok(())
 }
 
 // ── A fen less ──────────────────────────────────────────────────────────────────────────────────
@@ -111,18 +135,25 @@ fn only_trade(image: &Page, account: u64) -> u64 {
     0
 }
 
-fn pay_less(image: &Page, account: u64, figure: u64, tally: &mut Tally) {
+fn pay_less(
+    rt: &impl Print,
+    image: &Page,
+    account: u64,
+    figure: u64,
+    tally: &mut Tally,
+) -> io::Result<()> {
     let trade = only_trade(image, account);
     if trade == 0 {
-        return;
+        return Ok(());
     }
     let mut copy: Page = *image;
     let mut answer: Page = filled();
-    if pay_and_close(account, minus(figure, 1), &mut copy, &mut answer, tally) {
+    if pay_and_close(rt, account, minus(figure, 1), &mut copy, &mut answer, tally)? {
         let state = page_cell(image, STATE, trade);
         add(tally, plus(PAID_LESS, minus(state, 3)), 1);
-        judge(trade, default_of(&answer, account), account, tally);
+        judge(rt, trade, default_of(&answer, account), account, tally)?;
     }
+    Ok(())
 }
 
 // ── Both ────────────────────────────────────────────────────────────────────────────────────────
@@ -140,11 +171,19 @@ fn some_short(seed: &mut u64, figures: &Page) -> u64 {
     found
 }
 
-pub fn pay_some(seed: &mut u64, image: &Page, owing: &Owing, figures: &Page, tally: &mut Tally) {
+pub fn pay_some(
+    rt: &impl Print,
+    seed: &mut u64,
+    image: &Page,
+    owing: &Owing,
+    figures: &Page,
+    tally: &mut Tally,
+) -> io::Result<()> {
     let account = some_short(seed, figures);
     let figure = page_cell(figures, SHORTFALL, account);
     if account != 0 {
-        pay_figure(image, owing, account, figure, tally);
-        pay_less(image, account, figure, tally);
+        pay_figure(rt, image, owing, account, figure, tally)?;
+        pay_less(rt, image, account, figure, tally)?;
     }
+    Ok(())
 }

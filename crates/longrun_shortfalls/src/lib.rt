@@ -1,4 +1,6 @@
 // Shortfalls in the long runs (02 6/12): images drawn to ask about, counted by what they reach, and written as rows.
+#![tactic(auto)]
+
 mod counts;
 mod draws;
 mod owing;

@@ -7,6 +7,7 @@ use longrun_counts::{
     SHORT, SHORT_CLASSES, SHORTFALLS_END, Tally, counted, line,
 };
 use longrun_tables::{numbered_rows, unnamed_row};
+use std::io;
 
 // ── What no asking reached ──────────────────────────────────────────────────────────────────────
 
@@ -43,52 +44,48 @@ fn missed_edges(tally: &Tally) -> u64 {
 
 // ── Rows ────────────────────────────────────────────────────────────────────────────────────────
 
-fn print_asked(tally: &Tally) {
-    io::write_all(
-        1,
-        b"shortfalls asked for, of a valid image in a morning, in an afternoon, of another length, of a bad image in a morning, in an\n",
-    );
-    io::write_all(1, b"afternoon: by number from 0 on\n");
-    numbered_rows(tally, 1, ASKED_IMAGES + 1, ASKED, ASKED_NUMBERS);
-    io::write_all(
-        1,
-        b"bytes for figures: none, two or more too few, one too few, exact, one to spare, more\n",
-    );
-    unnamed_row(tally, FIGURES_ROOM, ROOM_CLASSES);
+fn print_asked(rt: &impl Print, tally: &Tally) -> io::Result<()> {
+    println!(rt;
+        "shortfalls asked for, of a valid image in a morning, in an afternoon, of another length, of a bad image in a morning, in an"
+    )?;
+    println!(rt; "afternoon: by number from 0 on")?;
+    numbered_rows(rt, tally, 1, ASKED_IMAGES + 1, ASKED, ASKED_NUMBERS)?;
+    println!(rt;
+        "bytes for figures: none, two or more too few, one too few, exact, one to spare, more"
+    )?;
+    unnamed_row(rt, tally, FIGURES_ROOM, ROOM_CLASSES)
 }
 
-fn print_owing(tally: &Tally) {
-    io::write_all(
-        1,
-        b"lots that are struck, lodged, with a penalty: due earlier, today, tomorrow, later; in an afternoon due, due later\n",
-    );
-    numbered_rows(tally, 1, CLOSE_ROWS + 1, CLOSE_LOTS, COUNTS_OF_CLOSE);
-    io::write_all(
-        1,
-        b"accounts short of money, with enough, with nothing to pay: due is one struck lot, one lodged, one penalty, several trades,\n",
-    );
-    io::write_all(1, b"several penalties, both\n");
-    numbered_rows(tally, 1, OWING_ROWS + 1, OWING, OWING_CLASSES);
-    io::write_all(
-        1,
-        b"figures above 0: of one fen, with a full payment below the deposit, of account 1, of account 96, of 33 bits or more\n",
-    );
-    unnamed_row(tally, SHORT, SHORT_CLASSES);
+fn print_owing(rt: &impl Print, tally: &Tally) -> io::Result<()> {
+    println!(rt;
+        "lots that are struck, lodged, with a penalty: due earlier, today, tomorrow, later; in an afternoon due, due later"
+    )?;
+    numbered_rows(rt, tally, 1, CLOSE_ROWS + 1, CLOSE_LOTS, COUNTS_OF_CLOSE)?;
+    println!(rt;
+        "accounts short of money, with enough, with nothing to pay: due is one struck lot, one lodged, one penalty, several trades,"
+    )?;
+    println!(rt; "several penalties, both")?;
+    numbered_rows(rt, tally, 1, OWING_ROWS + 1, OWING, OWING_CLASSES)?;
+    println!(rt;
+        "figures above 0: of one fen, with a full payment below the deposit, of account 1, of account 96, of 33 bits or more"
+    )?;
+    unnamed_row(rt, tally, SHORT, SHORT_CLASSES)
 }
 
-fn print_paid(tally: &Tally) {
-    io::write_all(1, b"figures paid in before a close, by what is due\n");
-    unnamed_row(tally, PAID_FIGURES, OWING_CLASSES);
-    io::write_all(1, b"but for one fen: of a struck trade, of a lodged one\n");
-    unnamed_row(tally, PAID_LESS, PAID_LESS_STATES);
+fn print_paid(rt: &impl Print, tally: &Tally) -> io::Result<()> {
+    println!(rt; "figures paid in before a close, by what is due")?;
+    unnamed_row(rt, tally, PAID_FIGURES, OWING_CLASSES)?;
+    println!(rt; "but for one fen: of a struck trade, of a lodged one")?;
+    unnamed_row(rt, tally, PAID_LESS, PAID_LESS_STATES)
 }
 
-pub fn print_shortfalls(tally: &Tally) {
-    print_asked(tally);
-    print_owing(tally);
-    print_paid(tally);
+pub fn print_shortfalls(rt: &impl Print, tally: &Tally) -> io::Result<()> {
+    print_asked(rt, tally)?;
+    print_owing(rt, tally)?;
+    print_paid(rt, tally)?;
     line(
-        b"edges of shortfalls that no asking reached: ",
+        rt,
+        "edges of shortfalls that no asking reached: ",
         missed_edges(tally),
-    );
+    )
 }

@@ -1,5 +1,7 @@
 // The library and the second ledger side by side: one call, one table of calls, the figures of shortfalls or one fresh image on both,
 // and the comparison.
+#![tactic(auto)]
+
 mod buffers;
 mod call_tables;
 mod compare;

@@ -1,4 +1,6 @@
 // What the long runs have reached, written as tables.
+#![tactic(auto)]
+
 mod edges;
 mod rows;
 
