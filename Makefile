@@ -27,7 +27,7 @@ need:
 
 # the archive for C, proved
 lib: need
-	rt staticlib crz
+	tools/lib
 
 host: lib
 	$(CC) $(WARNINGS) $(CFLAGS) -o target/crz host/*.c target/staticlib/libcrz.a $(LIBS)
@@ -52,6 +52,7 @@ test:
 	@tools/need test
 	@tools/test
 
-# after `rt ci`: it reads the logs of the must-fail edits
+# after `make lib`: it tries the must-fail edits once more and reads what is said of them
 audit:
+	@tools/edits
 	@tools/audit

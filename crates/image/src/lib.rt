@@ -1,5 +1,6 @@
 // An image of bytes as a zone: where each part stands, and each part read there.
 #![tactic(auto)]
+
 ghost use Rattle.std.specs.Prelude.{◌≡◌, ◌<◌, length};
 ghost use Rattle.units.specs.Payments.{fen};
 ghost use Rattle.units.specs.Ranges.{account_count, receipt_count, contract_count};

@@ -1,5 +1,6 @@
 // Yuan per tonne, fen and kilograms as types, the ranges of numbers, and the money of a trade.
 #![tactic(auto)]
+
 ghost use Rattle.std.specs.Prelude.{◌≡◌, ◌+◌, ◌≤◌, ◌<◌, ◌^◌, eqb};
 ghost use Rattle.units.specs.Ranges.{is_zero, is_account, is_receipt, is_contract, is_days, is_price, is_ask, most_weight, is_basis, is_premium, is_weight, is_amount};
 ghost use Rattle.units.specs.Payments.{unit_price, at_least_0, payable, full_payment, first_payment, rest_payment, paid_so_far, part_payment, deposit, penalty_passed};

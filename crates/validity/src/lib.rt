@@ -1,5 +1,6 @@
 // When a record is valid, and what its lot holds.
 #![tactic(auto)]
+
 ghost use Rattle.std.specs.Prelude.{◌≡◌, true, ◌≤◌};
 ghost use Rattle.units.specs.Ranges.{most_weight};
 ghost use Rattle.zone.specs.Held.{full, hold_of};

@@ -1,5 +1,6 @@
 // The values of a zone: its accounts, and its receipts with their lots. A lot is the sale of its receipt; one number names both.
 #![tactic(auto)]
+
 ghost use Rattle.std.specs.Prelude.{◌≡◌};
 ghost use Rattle.zone.specs.Record.{record_of, flat_record, no_listing, no_bid, no_invoices, listing_of, bid_of, trade_of};
 

@@ -8,11 +8,11 @@ pub loop-i-preserved : goal.loop-i-preserved
 loop-i-preserved c =
     let s = c.args in
     let l = c.loop-i in
-    let ahead : List ℕ = drop (l.i * 1040) l.answers in
-    let part : l.i * 1040 + 1040 - l.i * 1040 ≡ 1040 = omega arith in
+    let ahead : List ℕ = drop (l.i * answer_length) l.answers in
+    let part : l.i * answer_length + answer_length - l.i * answer_length ≡ answer_length = omega arith in
     let room : l.i * answer_length + answer_length ≤ length l.answers = omega arith in
-    let left : 1040 ≤ length ahead = simp length-drop (omega arith) in
-    let own : length c.make_call.new.answer ≡ answer_length = (rw part at c.make_call.auto.answer) ∙ length-take-le 1040 ahead left in
+    let left : answer_length ≤ length ahead = simp length-drop (omega arith) in
+    let own : length c.make_call.new.answer ≡ answer_length = (rw part at c.make_call.auto.answer) ∙ length-take-le answer_length ahead left in
     let next : suc l.i ≡ l.i + 1 = omega arith in (
       omega arith,
       rw (part, ← next)

@@ -3,7 +3,6 @@ use mathlib.Core.Path.{ap, ◌∙◌}
 use Prim.Native.Nat.{◌+◌, ◌*◌}
 use Rattle.image.specs.Layout.{account_length, account_start, account_in}
 use Rattle.image.specs.Laws.Table.{part_wide}
-use borrow.Author.Rules.{rules}
 use Rattle.image.proofs.account_at.Goals as goal
 
 pub returns : goal.returns

@@ -1,5 +1,4 @@
 -- `account_in` meets its contract: both numbers are read.
-use borrow.Author.Rules.{rules}
 use Rattle.image.specs.Layout.{account_in}
 use Rattle.image.proofs.account_in.Goals as goal
 

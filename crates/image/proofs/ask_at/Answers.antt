@@ -6,7 +6,6 @@ use lib.Dec.{lit≤}
 use Rattle.wire.specs.LittleEndian.{le_at}
 use Rattle.image.specs.Layout.{ask_length, contract_start, ask_run, ask_in}
 use Rattle.image.specs.Laws.Table.{le_at_part}
-use borrow.Author.Rules.{rules}
 use Rattle.image.proofs.ask_at.Goals as goal
 
 pub returns : goal.returns

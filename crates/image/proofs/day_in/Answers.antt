@@ -1,5 +1,4 @@
 -- The number of the two bytes.
-use borrow.Author.Rules.{rules}
 use Rattle.image.proofs.day_in.Goals as goal
 
 pub returns : goal.returns

@@ -3,7 +3,6 @@ use mathlib.Core.Path.{ap, ◌∙◌}
 use Prim.Native.Nat.{◌+◌, ◌*◌}
 use Rattle.image.specs.Layout.{receipt_length, receipt_start, record_in}
 use Rattle.image.specs.Laws.Table.{part_wide}
-use borrow.Author.Rules.{rules}
 use Rattle.image.proofs.record_at.Goals as goal
 
 pub returns : goal.returns

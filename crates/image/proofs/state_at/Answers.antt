@@ -3,7 +3,6 @@ use mathlib.Core.Path.{sym}
 use lib.Dec.{lit<}
 use Rattle.image.specs.Layout.{receipt_length, receipt_start, state_place, record_in}
 use Rattle.image.specs.Laws.Table.{byte_in}
-use borrow.Author.Rules.{rules}
 use Rattle.image.proofs.state_at.Goals as goal
 
 pub returns : goal.returns

@@ -1,7 +1,6 @@
 -- The number of the eight bytes, in fen.
 use mathlib.Core.Path.{ap}
 use Rattle.units.specs.Payments.{fen}
-use borrow.Author.Rules.{rules}
 use Rattle.image.proofs.total_in.Goals as goal
 
 pub returns : goal.returns

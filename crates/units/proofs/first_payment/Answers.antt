@@ -1,6 +1,5 @@
 use mathlib.Core.Path.{refl}
 use Rattle.units.specs.Payments.{first_payment}
-use borrow.Author.Rules.{rules}
 use Rattle.units.proofs.first_payment.Goals as goal
 
 pub returns : goal.returns

@@ -3,7 +3,6 @@ use Prim.Native.Nat.{ℕ, ◌+◌, ◌*◌, ◌/◌, ◌≤◌, ◌^◌}
 use native.Mathlib.Nat.{mul-le-mul, le_of_lt}
 use native.Mathlib.Omega.{arith}
 use Rattle.units.specs.Payments.{fen, full_payment}
-use borrow.Author.Rules.{rules}
 use Rattle.units.proofs.full_payment.Goals as goal
 
 product : (c : goal.After-struct_known-1) → c.price_to_pay.result * c.args.weight.0 ≤ 2 ^ 33 * 60000

@@ -1,4 +1,3 @@
-use borrow.Author.Rules.{rules}
 use Rattle.units.proofs.is_ask.Goals as goal
 
 pub returns : goal.returns

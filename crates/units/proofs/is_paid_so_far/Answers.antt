@@ -8,7 +8,6 @@ use borrow.Author.Tests.{leb-true, leb-false, ltb-true, ltb-false, eqb-true, eqb
 use lib.Dec.{leb, ltb, eqb}
 use Rattle.units.specs.Laws.Bounds.{rest_le, so_far_le_rest}
 use Rattle.units.specs.Payments.{rest_payment, paid_so_far}
-use borrow.Author.Rules.{rules}
 use Rattle.units.proofs.is_paid_so_far.Goals as goal
 use Rattle.units.proofs.is_paid_so_far.Goals.{After-rest_payment-rest, Else-rest-so_far}
 

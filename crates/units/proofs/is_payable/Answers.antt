@@ -1,6 +1,5 @@
 use mir.Facts.{to_z-of_z}
 use Rattle.units.specs.Payments.{payable}
-use borrow.Author.Rules.{rules}
 use Rattle.units.proofs.is_payable.Goals as goal
 
 pub returns : goal.returns

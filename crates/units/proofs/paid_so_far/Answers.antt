@@ -5,7 +5,6 @@ use native.Mathlib.Omega.{arith}
 use Rattle.units.specs.declared.Fen.{Fen}
 use Rattle.units.specs.Laws.Bounds.{rest_le}
 use Rattle.units.specs.Payments.{fen, paid_so_far}
-use borrow.Author.Rules.{rules}
 use Rattle.units.proofs.paid_so_far.Goals as goal
 
 pub overflow_mul-product : goal.overflow_mul-product

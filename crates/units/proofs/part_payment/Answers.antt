@@ -4,7 +4,6 @@ use native.Mathlib.Omega.{arith}
 use Rattle.units.specs.declared.Fen.{Fen}
 use Rattle.units.specs.Laws.Bounds.{so_far_up}
 use Rattle.units.specs.Payments.{fen, paid_so_far, part_payment}
-use borrow.Author.Rules.{rules}
 use Rattle.units.proofs.part_payment.Goals as goal
 use Rattle.units.proofs.part_payment.Goals.{Start}
 

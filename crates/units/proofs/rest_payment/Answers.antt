@@ -1,6 +1,5 @@
 use Rattle.units.specs.Laws.Bounds.{first_le}
 use Rattle.units.specs.Payments.{rest_payment}
-use borrow.Author.Rules.{rules}
 use Rattle.units.proofs.rest_payment.Goals as goal
 
 pub overflow_sub-rest : goal.overflow_sub-rest

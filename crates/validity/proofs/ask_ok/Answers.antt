@@ -1,5 +1,4 @@
 use Rattle.zone.specs.Valid.{ask_ok}
-use borrow.Author.Rules.{rules}
 use Rattle.validity.proofs.ask_ok.Goals as goal
 
 pub returns : goal.returns

@@ -1,7 +1,6 @@
 -- State 2: a listing and a bid.
 use native.Mathlib.Omega.{arith}
 use Rattle.validity.proofs.ByState.{standing, judged}
-use borrow.Author.Rules.{rules}
 use Rattle.validity.proofs.bid_stands_ok.Goals as goal
 
 pub returns : goal.returns

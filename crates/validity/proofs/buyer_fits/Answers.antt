@@ -1,5 +1,4 @@
 -- Each part is a test of its own.
-use borrow.Author.Rules.{rules}
 use Rattle.validity.proofs.buyer_fits.Goals as goal
 
 pub returns : goal.returns

@@ -2,11 +2,10 @@
 use mathlib.Core.Bool.{true, ◌&&◌}
 use mathlib.Core.Path.{◌≡◌, sym, ◌∙◌}
 use native.Mathlib.Omega.{arith}
-use borrow.Author.Tests.{eq-eqb, not-true, not-false}
+use borrow.Author.Tests.{eq-eqb}
 use lib.Dec.{eqb}
 use Rattle.zone.specs.Valid.{invoices_ok}
 use Rattle.validity.proofs.ByState.{fields, bought, fields_decide, tests_decide}
-use borrow.Author.Rules.{rules}
 use Rattle.validity.proofs.first_paid_ok.Goals as goal
 use Rattle.validity.proofs.first_paid_ok.Goals.{After-due_fits, Else-not-listing_fits-bid_fits}
 

@@ -1,5 +1,4 @@
 use Rattle.zone.specs.Held.{full}
-use borrow.Author.Rules.{rules}
 use Rattle.validity.proofs.full_of.Goals as goal
 
 pub returns : goal.returns

@@ -11,7 +11,6 @@ use Rattle.zone.specs.Held.{full, rest, held}
 use Rattle.zone.specs.Record.{invoices_of}
 use Rattle.zone.specs.Laws.Facts.{InvoicesIn, Bounds, bounds, known, owner_some}
 use Rattle.zone.specs.Laws.Held.{full_le, paid_le_rest}
-use borrow.Author.Rules.{rules}
 use Rattle.validity.proofs.hold_of.Goals as goal
 use Rattle.validity.proofs.hold_of.Goals.{Start, Then-s-eq-STATE_FIRST_PAID}
 

@@ -1,7 +1,6 @@
 -- State 0: nothing is filled.
 use native.Mathlib.Omega.{arith}
 use Rattle.validity.proofs.ByState.{idle, judged}
-use borrow.Author.Rules.{rules}
 use Rattle.validity.proofs.idle_ok.Goals as goal
 
 pub returns : goal.returns

@@ -1,7 +1,6 @@
 -- State 1: a listing.
 use native.Mathlib.Omega.{arith}
 use Rattle.validity.proofs.ByState.{listed, judged}
-use borrow.Author.Rules.{rules}
 use Rattle.validity.proofs.listed_ok.Goals as goal
 
 pub returns : goal.returns

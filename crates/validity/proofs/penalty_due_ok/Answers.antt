@@ -1,7 +1,6 @@
 -- State 7: the two parties and the due day.
 use native.Mathlib.Omega.{arith}
 use Rattle.validity.proofs.ByState.{owing, judged}
-use borrow.Author.Rules.{rules}
 use Rattle.validity.proofs.penalty_due_ok.Goals as goal
 
 pub returns : goal.returns

@@ -1,7 +1,6 @@
 -- State 5: a trade whose receipt is the buyer's.
 use native.Mathlib.Omega.{arith}
 use Rattle.validity.proofs.ByState.{bought, judged}
-use borrow.Author.Rules.{rules}
 use Rattle.validity.proofs.settled_ok.Goals as goal
 
 pub returns : goal.returns

@@ -1,7 +1,6 @@
 -- States 3 and 4: a trade that is due.
 use native.Mathlib.Omega.{arith}
 use Rattle.validity.proofs.ByState.{struck, judged}
-use borrow.Author.Rules.{rules}
 use Rattle.validity.proofs.struck_ok.Goals as goal
 
 pub returns : goal.returns

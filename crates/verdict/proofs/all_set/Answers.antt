@@ -1,6 +1,5 @@
 -- The first i marks are tested; the measure is the marks that are left.
-use Rattle.std.proofs.Common.{◌≡◌, suc, ◌+◌, ◌-◌, ◌<◌, ◌≤◌, false, length, get_or, take, refl, ap, ◌∙◌, arith, take_all, take-suc, rules}
-use Rattle.units.specs.Ranges.{receipt_count}
+use Rattle.std.proofs.Common.{◌≡◌, suc, ◌+◌, ◌<◌, false, length, get_or, take, refl, ap, ◌∙◌, arith, take_all, take-suc}
 use Rattle.zone.specs.Valid.{all}
 use Rattle.verdict.specs.Laws.Turns.{all_one}
 use Rattle.verdict.proofs.all_set.Goals as goal

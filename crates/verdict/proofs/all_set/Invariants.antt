@@ -1,8 +1,7 @@
 -- The first i marks are tested; the measure is the marks that are left.
-use Rattle.std.proofs.Common.{◌≡◌, suc, ◌+◌, ◌-◌, ◌<◌, ◌≤◌, false, length, get_or, take, refl, ap, ◌∙◌, arith, take_all, take-suc, rules}
+use Rattle.std.proofs.Common.{◌≡◌, ◌-◌, ◌≤◌, take}
 use Rattle.units.specs.Ranges.{receipt_count}
 use Rattle.zone.specs.Valid.{all}
-use Rattle.verdict.specs.Laws.Turns.{all_one}
 use Rattle.verdict.proofs.all_set.Given as goal
 
 abbrev pub invariant-loop-i : goal.invariant-loop-i

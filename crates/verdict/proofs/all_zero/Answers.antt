@@ -1,6 +1,5 @@
 -- The wide reads are zero where the fields are (Laws/Zeros).
 use Rattle.verdict.specs.Laws.Zeros.{zeros_test}
-use Rattle.std.proofs.Common.{rules}
 use Rattle.verdict.proofs.all_zero.Goals as goal
 
 pub returns : goal.returns

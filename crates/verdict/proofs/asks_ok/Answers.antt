@@ -1,5 +1,5 @@
 -- The first i asks are tested; the measure is the asks that are left.
-use Rattle.std.proofs.Common.{◌≡◌, ℕ, ◌-◌, ◌≤◌, refl, ap, ◌∙◌, arith, rules}
+use Rattle.std.proofs.Common.{◌≡◌, ℕ, refl, ap, ◌∙◌, arith}
 use Rattle.units.specs.declared.YuanPerTonne.{YuanPerTonne}
 use Rattle.zone.specs.Valid.{all, ask_ok}
 use Rattle.image.specs.Table.{table}

@@ -1,11 +1,8 @@
 -- The first i asks are tested; the measure is the asks that are left.
-use Rattle.std.proofs.Common.{◌≡◌, ℕ, ◌-◌, ◌≤◌, refl, ap, ◌∙◌, arith, rules}
-use Rattle.units.specs.declared.YuanPerTonne.{YuanPerTonne}
+use Rattle.std.proofs.Common.{◌≡◌, ◌-◌, ◌≤◌}
 use Rattle.zone.specs.Valid.{all, ask_ok}
 use Rattle.image.specs.Table.{table}
-use Rattle.image.specs.Layout.{ask_run, ask_in, asks_in}
-use Rattle.image.specs.Laws.Table.{table_suc}
-use Rattle.verdict.specs.Laws.Turns.{all_one}
+use Rattle.image.specs.Layout.{ask_run, ask_in}
 use Rattle.units.specs.Ranges.{contract_count}
 use Rattle.verdict.proofs.asks_ok.Given as goal
 

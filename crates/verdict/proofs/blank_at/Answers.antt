@@ -1,5 +1,5 @@
 -- The bytes from its place on.
-use Rattle.std.proofs.Common.{ℕ, ◌+◌, ◌*◌, List, ap, ◌∙◌, rules}
+use Rattle.std.proofs.Common.{ℕ, ◌+◌, ◌*◌, List, ap, ◌∙◌}
 use Rattle.zone.specs.Valid.{blank}
 use Rattle.image.specs.Layout.{receipt_length, receipt_start, record_in}
 use Rattle.image.specs.Laws.Table.{part_wide}

@@ -1,15 +1,9 @@
 -- The bits and the money of the first i accounts are gathered, in 64 bits; the measure is the accounts that are left.
-use Rattle.std.proofs.Common.{◌≡◌, ℕ, ◌-◌, ◌≤◌, true, List, length, sym, refl, ap, ◌∙◌, arith, rules}
-use borrow.Author.Tests.{not-true, not-false}
-use lib.ListN.{length-map}
-use Rattle.units.specs.Ranges.{account_count, receipt_count}
+use Rattle.std.proofs.Common.{◌≡◌, ℕ, ◌-◌, ◌≤◌, List}
+use Rattle.units.specs.Ranges.{account_count}
 use Rattle.zone.specs.declared.Account.{Account}
-use Rattle.zone.specs.Valid.{all, record_valid}
-use Rattle.image.specs.Layout.{account_run, account_in, accounts_in, records_in}
-use Rattle.image.specs.Laws.Table.{length_table}
-use Rattle.verdict.specs.Sums.{frozen_sums}
-use Rattle.verdict.specs.Laws.Bits.{sum_small, free_bits, other_bits, wrapped, free_more, other_more, wrapped_more, bits_decide}
-use Rattle.verdict.specs.Laws.Verdict.{all_marked}
+use Rattle.image.specs.Layout.{account_run, account_in}
+use Rattle.verdict.specs.Laws.Bits.{free_bits, other_bits, wrapped}
 use Rattle.verdict.proofs.books_ok.Given as goal
 
 -- account k of the image

@@ -1,5 +1,4 @@
 -- `header_ok` meets its contract: each number is read.
-use Rattle.std.proofs.Common.{rules}
 use Rattle.image.specs.Layout.{header_ok}
 use Rattle.verdict.proofs.header_ok.Goals as goal
 

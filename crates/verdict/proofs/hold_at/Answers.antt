@@ -1,6 +1,5 @@
 -- By the verdict on the record: what it holds, and its mark.
-use Rattle.std.proofs.Common.{◌≡◌, Bool, true, false, sym, ap, ◌∙◌, arith, rules}
-use borrow.Author.Tests.{not-true, not-false}
+use Rattle.std.proofs.Common.{◌≡◌, Bool, true, false, sym, ap, ◌∙◌, arith}
 use Rattle.zone.specs.declared.Record.{Record}
 use Rattle.zone.specs.Held.{hold_of}
 use Rattle.zone.specs.Valid.{blank, record_valid}

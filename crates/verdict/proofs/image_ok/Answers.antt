@@ -1,6 +1,5 @@
 -- The tests one by one; together they are the test by the sums, and that is the definition (Laws/Verdict).
-use Rattle.std.proofs.Common.{◌≡◌, true, false, ◌&&◌, leb, length, sym, ap, arith, rules, ne_eqb}
-use borrow.Author.Tests.{not-true, not-false}
+use Rattle.std.proofs.Common.{◌≡◌, true, false, ◌&&◌, leb, length, sym, ap, arith, ne_eqb}
 use Rattle.units.specs.declared.Fen.{Fen}
 use Rattle.units.specs.Ranges.{last_day}
 use Rattle.zone.specs.Valid.{all, ask_ok}

@@ -1,5 +1,5 @@
 -- One byte of the record.
-use Rattle.std.proofs.Common.{sym, lit<, rules}
+use Rattle.std.proofs.Common.{sym, lit<}
 use Rattle.image.specs.Layout.{receipt_length, receipt_start, owner_place, record_in}
 use Rattle.image.specs.Laws.Table.{byte_in}
 use Rattle.verdict.proofs.owner_at.Goals as goal

@@ -1,7 +1,5 @@
 -- The records from k on are blank.
-use Rattle.std.proofs.Common.{◌≡◌, ◌-◌, ◌≤◌, sym, ◌∙◌, subst, arith, rules}
-use borrow.Author.Tests.{not-false}
-use Rattle.units.specs.Ranges.{receipt_count}
+use Rattle.std.proofs.Common.{◌≡◌, ◌-◌, sym, ◌∙◌, subst, arith}
 use Rattle.verdict.specs.Walk.{BlankFrom}
 use Rattle.verdict.specs.Laws.Walk.{blank_none, blank_more}
 use Rattle.verdict.proofs.registered_end.Goals as goal

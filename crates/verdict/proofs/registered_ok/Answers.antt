@@ -1,6 +1,5 @@
 -- State, owner, weight and premium first; then each state is judged by its own tests.
-use Rattle.std.proofs.Common.{◌≡◌, List, ℕ, ◌+◌, ◌≤◌, true, false, ◌&&◌, leb, ◌≢◌, sym, ap, ◌∙◌, arith, rules, ne_eqb, leb-true}
-use borrow.Author.Tests.{not-true, not-false}
+use Rattle.std.proofs.Common.{◌≡◌, List, ℕ, ◌+◌, ◌≤◌, true, false, ◌&&◌, leb, ◌≢◌, sym, ap, ◌∙◌, arith, ne_eqb, leb-true}
 use Rattle.units.specs.Ranges.{is_account, is_weight, is_premium}
 use Rattle.zone.specs.declared.Record.{Record}
 use Rattle.zone.specs.Valid.{fields_ok, record_valid}

@@ -1,6 +1,5 @@
 -- `get_u16` meets its contract: two bytes are `le_at 2`, written out.
 use native.Mathlib.Omega.{arith}
-use borrow.Author.Rules.{rules}
 use Rattle.wire.specs.LittleEndian.{le_at}
 use Rattle.wire.proofs.get_u16.Goals as goal
 

@@ -1,6 +1,5 @@
 -- `get_u64` meets its contract: `le_at_add` joins the two halves.
 use native.Mathlib.Omega.{arith}
-use borrow.Author.Rules.{rules}
 use Rattle.wire.specs.Laws.Bytes.{le_at_add}
 use Rattle.wire.proofs.get_u64.Goals as goal
 

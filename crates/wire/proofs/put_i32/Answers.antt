@@ -1,5 +1,4 @@
 -- `put_i32` meets its contract: what `put_u32` ensures of the bits that `bits` gives.
-use borrow.Author.Rules.{rules}
 use mir.Facts.{to_z-of_z}
 use Rattle.wire.proofs.put_i32.Goals as goal
 

@@ -1,10 +1,8 @@
 -- `put_run` meets its contract. The loop's invariant: the first i bytes are put. The measure is what is left of them.
-use Prim.Native.Nat.{◌≤◌, ◌-◌}
 use native.Mathlib.Omega.{arith}
-use mathlib.Core.Path.{◌≡◌, ◌∙◌, ap}
-use borrow.Author.Rules.{rules}
-use lib.ListN.{length, take}
-use lib.Seq.{sets, length-sets, take_all}
+use mathlib.Core.Path.{◌∙◌, ap}
+use lib.ListN.{length}
+use lib.Seq.{length-sets, take_all}
 use Rattle.wire.proofs.Runs.{byte_more}
 use Rattle.wire.proofs.put_run.Goals as goal
 

@@ -1,11 +1,8 @@
 -- `put_run` meets its contract. The loop's invariant: the first i bytes are put. The measure is what is left of them.
 use Prim.Native.Nat.{◌≤◌, ◌-◌}
-use native.Mathlib.Omega.{arith}
-use mathlib.Core.Path.{◌≡◌, ◌∙◌, ap}
-use borrow.Author.Rules.{rules}
+use mathlib.Core.Path.{◌≡◌}
 use lib.ListN.{length, take}
-use lib.Seq.{sets, length-sets, take_all}
-use Rattle.wire.proofs.Runs.{byte_more}
+use lib.Seq.{sets}
 use Rattle.wire.proofs.put_run.Given as goal
 
 abbrev pub invariant-loop-i : goal.invariant-loop-i

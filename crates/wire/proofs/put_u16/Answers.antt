@@ -1,7 +1,6 @@
 -- `put_u16` meets its contract: two stores are a put of `le_bytes 2`, written out.
 use native.Mathlib.Numerals.{add-one}
 use native.Mathlib.Omega.{arith}
-use borrow.Author.Rules.{rules}
 use lib.ListN.{length-set}
 use Rattle.wire.specs.LittleEndian.{le_bytes}
 use Rattle.wire.proofs.put_u16.Goals as goal

@@ -1,5 +1,4 @@
 -- `put_u32` meets its contract: `sets_le` joins the two puts.
-use borrow.Author.Rules.{rules}
 use Rattle.wire.specs.Laws.Bytes.{sets_le}
 use Rattle.wire.proofs.put_u32.Goals as goal
 

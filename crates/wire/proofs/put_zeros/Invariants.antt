@@ -1,11 +1,8 @@
 -- `put_zeros` meets its contract. The loop's invariant: i zeros are put. The measure is what is left of them.
 use Prim.Native.Nat.{◌≤◌, ◌-◌}
-use native.Mathlib.Omega.{arith}
-use mathlib.Core.Path.{◌≡◌, ◌∙◌, ap}
-use borrow.Author.Rules.{rules}
-use lib.ListN.{length, replicate}
-use lib.Seq.{sets, length-sets}
-use Rattle.wire.proofs.Runs.{zero_more}
+use mathlib.Core.Path.{◌≡◌}
+use lib.ListN.{replicate}
+use lib.Seq.{sets}
 use Rattle.wire.proofs.put_zeros.Given as goal
 
 abbrev pub invariant-loop-i : goal.invariant-loop-i

@@ -1,6 +1,5 @@
 -- `signed` meets its contract: below 2 ^ 31 the cast keeps the number, from there on `high` says what -1 less the rest is.
 use native.Mathlib.Omega.{arith}
-use borrow.Author.Rules.{rules}
 use mir.Facts.{to_z-of_z}
 use Rattle.wire.specs.Laws.TwosComplement.{to_z_signed, signed_fits}
 use Rattle.wire.proofs.TwosComplement.{high}

@@ -1,4 +1,3 @@
-use borrow.Author.Rules.{rules}
 use Rattle.zone.proofs.penalty_record.Goals as goal
 
 pub returns : goal.returns

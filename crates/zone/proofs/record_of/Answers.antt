@@ -1,6 +1,5 @@
 -- One answer for each state: the record of its groups of fields, the groups that it does not fill being zero.
 use Rattle.zone.specs.Record.{record_of}
-use borrow.Author.Rules.{rules}
 use Rattle.zone.proofs.record_of.Goals as goal
 
 pub returns-in-Idle : goal.returns-in-Idle

@@ -1,4 +1,3 @@
-use borrow.Author.Rules.{rules}
 use Rattle.zone.proofs.trade_of.Goals as goal
 
 pub returns : goal.returns

@@ -20,7 +20,7 @@ use Rattle.zone.specs.Held.{full}
 use Rattle.zone.specs.Record.{no_listing, no_bid, no_invoices, flat_record, record_as, record_of, invoices_of}
 use Rattle.zone.specs.Valid.{record_valid}
 use Rattle.zone.specs.Laws.Tests.{InRange, inside, in_range_lem, fills, leaves}
-use Rattle.zone.specs.Laws.Facts.{ListingAt, BidAt, OwnerAt, InvoicesIn, Owned, FieldsIn, known_valid, unregistered, none_valid}
+use Rattle.zone.specs.Laws.Facts.{ListingAt, BidAt, OwnerAt, InvoicesIn, Owned, FieldsIn, known_valid, none_valid}
 
 -- ── The groups of fields, each in its range ────────────────────────────────────────────────────
 
