@@ -1,5 +1,6 @@
 // A fresh zone, and the bytes of a whole zone.
 #![tactic(auto)]
+
 ghost use Rattle.std.specs.Prelude.{◌≡◌, false, length, take};
 ghost use Rattle.std.proofs.lemmas.List.Edits.{sets};
 ghost use Rattle.zone.specs.Valid.{no_receipt, fresh_zone};

@@ -1,5 +1,6 @@
 // What the lots of an image hold from each account, and whether bytes are a valid image.
 #![tactic(auto)]
+
 ghost use Rattle.std.specs.Prelude.{◌≡◌, ◌+◌, ◌^◌, ◌<◌, ◌≤◌, true, ◌≢◌, length, replicate};
 ghost use Rattle.units.specs.Payments.{fen};
 ghost use Rattle.units.specs.Ranges.{receipt_count, money_limit};

@@ -1,6 +1,5 @@
 use lib.ListN.{replicate}
 use Rattle.zone.specs.Valid.{fresh_zone}
-use borrow.Author.Rules.{rules}
 use Rattle.fresh.proofs.fresh_zone.Goals as goal
 
 pub returns : goal.returns

@@ -1,11 +1,10 @@
 -- `put_accounts` meets its contract. The loop's invariant: the first i accounts are put. The measure is the accounts that are left.
-use Rattle.units.specs.Ranges.{account_count}
 use mathlib.Core.List.{List}
-use mathlib.Core.Path.{◌≡◌, refl, ap, ◌∙◌}
-use Prim.Native.Nat.{ℕ, ◌≤◌, ◌<◌, ◌+◌, ◌*◌, ◌-◌}
+use mathlib.Core.Path.{refl, ap, ◌∙◌}
+use Prim.Native.Nat.{ℕ, ◌≤◌, ◌<◌, ◌+◌, ◌*◌}
 use native.Mathlib.Omega.{arith}
 use borrow.Author.Rules.{rules}
-use lib.ListN.{length, take, get_or}
+use lib.ListN.{length, get_or}
 use lib.Seq.{sets, take_all, length-sets}
 use Rattle.zone.specs.Valid.{empty_account}
 use Rattle.image.specs.Table.{table_bytes}

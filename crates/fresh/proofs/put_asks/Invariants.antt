@@ -1,17 +1,11 @@
 -- `put_asks` meets its contract. The loop's invariant: the first i asks are put. The measure is the asks that are left.
 use Rattle.units.specs.Ranges.{contract_count}
-use mathlib.Core.List.{List}
-use mathlib.Core.Path.{◌≡◌, refl, ap, ◌∙◌}
-use Prim.Native.Nat.{ℕ, ◌≤◌, ◌<◌, ◌+◌, ◌*◌, ◌-◌}
-use native.Mathlib.Omega.{arith}
-use borrow.Author.Rules.{rules}
-use lib.ListN.{length, take, get_or}
-use lib.Seq.{sets, take_all, length-sets}
-use Rattle.units.specs.declared.YuanPerTonne.{YuanPerTonne}
+use mathlib.Core.Path.{◌≡◌}
+use Prim.Native.Nat.{◌≤◌, ◌-◌}
+use lib.ListN.{length, take}
+use lib.Seq.{sets}
 use Rattle.image.specs.Table.{table_bytes}
-use Rattle.image.specs.Layout.{ask_length, contract_start, ask_bytes}
-use Rattle.image.specs.Laws.Table.{put_more}
-use Rattle.image.specs.Laws.Layout.{ask_wide}
+use Rattle.image.specs.Layout.{contract_start, ask_bytes}
 use Rattle.fresh.proofs.put_asks.Given as goal
 
 abbrev pub invariant-loop-i : goal.invariant-loop-i

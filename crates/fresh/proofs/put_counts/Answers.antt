@@ -5,7 +5,6 @@ use Rattle.units.specs.Ranges.{account_count, receipt_count, contract_count}
 use Rattle.wire.specs.LittleEndian.{le_bytes}
 use Rattle.wire.specs.Laws.Bytes.{run_behind}
 use Rattle.image.specs.Layout.{account_start, contract_start, receipt_start, account_count_place, receipt_count_place, contract_count_place, day_place, account_start_place, contract_start_place, receipt_start_place, header_bytes}
-use borrow.Author.Rules.{rules}
 use Rattle.fresh.proofs.put_counts.Goals as goal
 
 pub returns : goal.returns

@@ -8,7 +8,6 @@ use lib.Seq.{sets}
 use Rattle.wire.specs.LittleEndian.{le_bytes}
 use Rattle.wire.specs.Laws.Bytes.{run_behind}
 use Rattle.image.specs.Layout.{phase_place, total_place, header_bytes}
-use borrow.Author.Rules.{rules}
 use Rattle.fresh.proofs.put_header.Goals as goal
 
 pub returns : goal.returns

@@ -1,11 +1,10 @@
 -- `put_receipts` meets its contract. The loop's invariant: the first i receipts are put. The measure is the receipts that are left.
-use Rattle.units.specs.Ranges.{receipt_count}
 use mathlib.Core.List.{List}
-use mathlib.Core.Path.{◌≡◌, refl, ap, ◌∙◌}
-use Prim.Native.Nat.{ℕ, ◌≤◌, ◌<◌, ◌+◌, ◌*◌, ◌-◌}
+use mathlib.Core.Path.{refl, ap, ◌∙◌}
+use Prim.Native.Nat.{ℕ, ◌≤◌, ◌<◌, ◌+◌, ◌*◌}
 use native.Mathlib.Omega.{arith}
 use borrow.Author.Rules.{rules}
-use lib.ListN.{length, take, get_or}
+use lib.ListN.{length, get_or}
 use lib.Seq.{sets, take_all, length-sets}
 use Rattle.zone.specs.declared.Record.{Record}
 use Rattle.zone.specs.Valid.{no_receipt}

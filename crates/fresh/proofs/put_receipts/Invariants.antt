@@ -1,18 +1,11 @@
 -- `put_receipts` meets its contract. The loop's invariant: the first i receipts are put. The measure is the receipts that are left.
 use Rattle.units.specs.Ranges.{receipt_count}
-use mathlib.Core.List.{List}
-use mathlib.Core.Path.{◌≡◌, refl, ap, ◌∙◌}
-use Prim.Native.Nat.{ℕ, ◌≤◌, ◌<◌, ◌+◌, ◌*◌, ◌-◌}
-use native.Mathlib.Omega.{arith}
-use borrow.Author.Rules.{rules}
-use lib.ListN.{length, take, get_or}
-use lib.Seq.{sets, take_all, length-sets}
-use Rattle.zone.specs.declared.Record.{Record}
-use Rattle.zone.specs.Valid.{no_receipt}
+use mathlib.Core.Path.{◌≡◌}
+use Prim.Native.Nat.{◌≤◌, ◌-◌}
+use lib.ListN.{length, take}
+use lib.Seq.{sets}
 use Rattle.image.specs.Table.{table_bytes}
-use Rattle.image.specs.Layout.{receipt_length, receipt_start, record_bytes, receipt_bytes}
-use Rattle.image.specs.Laws.Table.{put_more}
-use Rattle.image.specs.Laws.Layout.{receipt_wide}
+use Rattle.image.specs.Layout.{receipt_start, receipt_bytes}
 use Rattle.fresh.proofs.put_receipts.Given as goal
 
 abbrev pub invariant-loop-i : goal.invariant-loop-i

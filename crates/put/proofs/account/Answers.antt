@@ -3,7 +3,6 @@ use mathlib.Core.Path.{◌∙◌}
 use native.Mathlib.Omega.{arith}
 use Rattle.image.specs.Laws.Places.{account_put}
 use Rattle.image.specs.Laws.RoundTrip.{same_long}
-use borrow.Author.Rules.{rules}
 use Rattle.put.proofs.account.Goals as goal
 
 pub account_bytes-requires : goal.account_bytes-requires

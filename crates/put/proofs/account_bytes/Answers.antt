@@ -6,7 +6,6 @@ use lib.Seq.{sets}
 use Rattle.wire.specs.LittleEndian.{le_bytes}
 use Rattle.wire.specs.Laws.Bytes.{sets_append, length_le_bytes}
 use Rattle.image.specs.Layout.{account_bytes}
-use borrow.Author.Rules.{rules}
 use Rattle.put.proofs.account_bytes.Goals as goal
 
 pub returns : goal.returns

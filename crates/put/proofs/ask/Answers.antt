@@ -4,7 +4,6 @@ use native.Mathlib.Omega.{arith}
 use Rattle.image.specs.Laws.Places.{ask_put}
 use Rattle.image.specs.Laws.RoundTrip.{same_long}
 use Rattle.image.specs.Layout.{ask_bytes}
-use borrow.Author.Rules.{rules}
 use Rattle.put.proofs.ask.Goals as goal
 
 pub put_u32-requires : goal.put_u32-requires

@@ -9,7 +9,6 @@ use Rattle.wire.specs.LittleEndian.{le_bytes}
 use Rattle.image.specs.Layout.{day_place, phase_place}
 use Rattle.image.specs.Laws.Places.{clock_put}
 use Rattle.image.specs.Laws.RoundTrip.{same_long}
-use borrow.Author.Rules.{rules}
 use Rattle.put.proofs.clock.Goals as goal
 
 pub put_u16-requires : goal.put_u16-requires

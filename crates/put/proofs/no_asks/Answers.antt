@@ -3,7 +3,6 @@ use mathlib.Core.Path.{◌∙◌}
 use native.Mathlib.Omega.{arith}
 use Rattle.image.specs.Laws.Places.{asks_cleared}
 use Rattle.image.specs.Laws.RoundTrip.{same_long}
-use borrow.Author.Rules.{rules}
 use Rattle.put.proofs.no_asks.Goals as goal
 
 pub put_zeros-requires : goal.put_zeros-requires

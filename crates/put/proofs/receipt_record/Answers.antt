@@ -8,7 +8,6 @@ use Rattle.zone.specs.Record.{receipt_of}
 use Rattle.image.specs.Layout.{receipt_length, receipt_start, record_bytes, receipt_bytes}
 use Rattle.image.specs.Laws.Places.{receipt_put}
 use Rattle.image.specs.Laws.RoundTrip.{same_long}
-use borrow.Author.Rules.{rules}
 use Rattle.put.proofs.receipt_record.Goals as goal
 
 pub record_bytes-requires : goal.record_bytes-requires

@@ -1,6 +1,5 @@
 -- Five runs, one behind the other.
 use Rattle.put.proofs.Runs.{but_premium}
-use borrow.Author.Rules.{rules}
 use Rattle.put.proofs.record_but_premium.Goals as goal
 
 pub returns : goal.returns

@@ -3,7 +3,6 @@ use mathlib.Core.Path.{◌∙◌}
 use native.Mathlib.Omega.{arith}
 use Rattle.image.specs.Laws.Places.{total_put}
 use Rattle.image.specs.Laws.RoundTrip.{same_long}
-use borrow.Author.Rules.{rules}
 use Rattle.put.proofs.total.Goals as goal
 
 pub put_u64-requires : goal.put_u64-requires
