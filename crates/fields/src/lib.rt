@@ -1,5 +1,6 @@
 // The fields of a call that its kind uses: the others are zero, these are in their ranges.
 #![tactic(auto)]
+
 ghost use Rattle.std.specs.Prelude.{◌&&◌, ◌≡◌, eqb};
 ghost use Rattle.units.specs.Ranges.{is_zero, is_account, is_receipt};
 ghost use Rattle.rules.specs.Numbers.{brackets, unused_zero, in_range, values};

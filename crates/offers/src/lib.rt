@@ -1,5 +1,6 @@
 // The code of the rules of registration, listings and bids: kinds 3 to 9.
 #![tactic(auto)]
+
 ghost use Rattle.std.specs.Prelude.{◌≡◌, ◌≤◌};
 ghost use Rattle.units.specs.Ranges.{most_price, last_day, most_days};
 ghost use Rattle.zone.specs.Record.{record_of, bid_of};

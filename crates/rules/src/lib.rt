@@ -1,5 +1,6 @@
 // The values that the rules read and give, and the entries of events.
 #![tactic(auto)]
+
 ghost use Rattle.std.specs.Prelude.{◌≡◌};
 ghost use Rattle.rules.specs.Effects.{owned_by, with_lot};
 

@@ -1,5 +1,6 @@
 // The code of the rules of a struck trade: lodging, payments and invoices. Kinds 10 and 12 to 14.
 #![tactic(auto)]
+
 ghost use Rattle.std.specs.Prelude.{true, ◌≡◌, ◌+◌, ◌<◌, ◌^◌};
 ghost use Rattle.zone.specs.Valid.{record_valid};
 ghost use Rattle.rules.specs.Effects.{lodge, pay_first, send_invoice, confirmed_lot, confirm};

@@ -8,7 +8,6 @@ use Rattle.wire.specs.LittleEndian.{le_at}
 use Rattle.wire.specs.Laws.Bytes.{le_at_add}
 use Rattle.rules.specs.declared.Call.{Call}
 use Rattle.answers.specs.Buffers.{call_in}
-use borrow.Author.Rules.{rules}
 use Rattle.answers.proofs.call_in.Goals as goal
 
 call_eq : {k a r q d s s' n n' : ℕ} {b b' : ℤ} {w w' : ℕ} → s ≡ s' → n ≡ n' → b ≡ b' → w ≡ w' →

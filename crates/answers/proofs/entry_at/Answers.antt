@@ -4,7 +4,6 @@ use native.Mathlib.Omega.{arith}
 use Rattle.image.specs.Laws.Table.{le_at_part}
 use Rattle.answers.specs.Buffers.{entry_length, entry_place, entry_in}
 use Rattle.answers.specs.Laws.Entries.{entry_eq, byte_of}
-use borrow.Author.Rules.{rules}
 use Rattle.answers.proofs.entry_at.Goals as goal
 
 pub returns : goal.returns

@@ -4,7 +4,6 @@ use mathlib.Core.Path.{refl}
 use Rattle.wire.specs.LittleEndian.{le_bytes}
 use Rattle.wire.specs.Laws.Bytes.{run_behind}
 use Rattle.answers.specs.Buffers.{entry_place, entry_bytes}
-use borrow.Author.Rules.{rules}
 use Rattle.answers.proofs.put_entry.Goals as goal
 
 pub returns : goal.returns

@@ -9,7 +9,6 @@ use Rattle.wire.specs.Laws.Bytes.{run_behind}
 use Rattle.image.specs.Image.{decode}
 use Rattle.image.specs.Layout.{phase_byte}
 use Rattle.answers.specs.Buffers.{header_of, answer_header}
-use borrow.Author.Rules.{rules}
 use Rattle.answers.proofs.put_header.Goals as goal
 
 pub returns : goal.returns

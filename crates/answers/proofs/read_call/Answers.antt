@@ -1,7 +1,6 @@
 -- A record of 24 bytes is read, any other is no call.
 use borrow.Author.Tests.{eq-eqb, ne_eqb}
 use Rattle.answers.specs.Buffers.{call_or_none}
-use borrow.Author.Rules.{rules}
 use Rattle.answers.proofs.read_call.Goals as goal
 
 pub returns-then-s-ne-CALL_LENGTH : goal.returns-then-s-ne-CALL_LENGTH

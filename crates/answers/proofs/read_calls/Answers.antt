@@ -10,7 +10,7 @@ use lib.Seq.{take-suc-set}
 use Rattle.image.specs.Table.{table, run_at}
 use Rattle.image.specs.Laws.Table.{map_table, part_wide, table_suc}
 use Rattle.rules.specs.declared.Call.{Call}
-use Rattle.answers.specs.Buffers.{call_length, most_calls, call_or_none, call_records}
+use Rattle.answers.specs.Buffers.{call_length, call_or_none, call_records}
 use Rattle.answers.proofs.read_calls.Goals as goal
 
 -- record i ends within the bytes

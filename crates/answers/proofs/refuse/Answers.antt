@@ -4,7 +4,6 @@ use Prim.Native.Nat.{ℕ}
 use native.Mathlib.Omega.{arith}
 use lib.Seq.{sets}
 use Rattle.answers.specs.Laws.Answer.{run_over_zeros}
-use borrow.Author.Rules.{rules}
 use Rattle.answers.proofs.refuse.Goals as goal
 
 pub returns : goal.returns

@@ -1,5 +1,5 @@
 use mathlib.Core.List.{[], ◌∷◌}
-use mathlib.Core.Logic.{⊎_elim, inl}
+use mathlib.Core.Logic.{inl}
 use mathlib.Core.Path.{◌≡◌, sym, ap, refl}
 use native.Mathlib.Omega.{arith}
 use Rattle.std.proofs.Common.{ne_eqb}
@@ -80,8 +80,8 @@ returns-in-5 c =
     rw c.names_lot-in-5.ensures
     (in_row c.args.c
     (elim c.in-5-1.branch [
-      in-5-1 w ↦ named_lot c.args.c.kind (assumption w)
-    | in_default+else-kind-lt1+else-kind-lt3+then-kind-lt9 w ↦
-        let lots : OneOf (5 ∷ 10 ∷ 12 ∷ 14 ∷ []) c.args.c.kind → ⊥ = assumption w in
-        left_lot c.args.c.kind (omega arith) (omega arith) (omega arith) (λ e. lots (inl e)) (omega arith) (omega arith)
+      | in-5-1 w ↦ named_lot c.args.c.kind (assumption w)
+      | in_default+else-kind-lt1+else-kind-lt3+then-kind-lt9 w ↦
+          let lots : OneOf (5 ∷ 10 ∷ 12 ∷ 14 ∷ []) c.args.c.kind → ⊥ = assumption w in
+          left_lot c.args.c.kind (omega arith) (omega arith) (omega arith) (λ e. lots (inl e)) (omega arith) (omega arith)
     ]))

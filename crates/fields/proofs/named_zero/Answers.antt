@@ -48,14 +48,14 @@ returns-in_default c =
     rw c.no_terms-in_default.ensures
     (outside_row a {fs = []}
     (elim c.in_default.branch [
-      in_default-via-then-kind-lt1 w ↦ at_run brackets 0 1 {n = c.args.c.kind} (refl, tt) (omega arith) (omega arith)
-    | in_default-via-else-kind-lt1+else-kind-lt3+else-kind-lt9 w ↦
-        simp (
-          above a.kind 9 (omega arith),
-          ne_eqb a.kind 9 (omega arith),
-          no_key a.kind (5 ∷ 10 ∷ 12 ∷ 14 ∷ []) (assumption w),
-          no_key a.kind (6 ∷ 13 ∷ []) (assumption w),
-        )
+      | in_default-via-then-kind-lt1 w ↦ at_run brackets 0 1 {n = c.args.c.kind} (refl, tt) (omega arith) (omega arith)
+      | in_default-via-else-kind-lt1+else-kind-lt3+else-kind-lt9 w ↦
+          simp (
+            above a.kind 9 (omega arith),
+            ne_eqb a.kind 9 (omega arith),
+            no_key a.kind (5 ∷ 10 ∷ 12 ∷ 14 ∷ []) (assumption w),
+            no_key a.kind (6 ∷ 13 ∷ []) (assumption w),
+          )
     ]))
 
 pub returns-in-5 : goal.returns-in-5
@@ -63,9 +63,9 @@ returns-in-5 c =
     rw c.no_terms-in-5.ensures
     (outside_row c.args.c
     (elim c.in-5-1.branch [
-      in-5-1 w ↦ named_lot c.args.c.kind (assumption w)
-    | in_default+else-kind-lt1+else-kind-lt3+then-kind-lt9 w ↦
-        let lots : OneOf (5 ∷ 10 ∷ 12 ∷ 14 ∷ []) c.args.c.kind → ⊥ = assumption w in
-        let prices : OneOf (6 ∷ 13 ∷ []) c.args.c.kind → ⊥ = assumption w in
-        left_lot c.args.c.kind (omega arith) (omega arith) (omega arith) (λ e. lots (inl e)) (λ e. prices (inl e)) (omega arith)
+      | in-5-1 w ↦ named_lot c.args.c.kind (assumption w)
+      | in_default+else-kind-lt1+else-kind-lt3+then-kind-lt9 w ↦
+          let lots : OneOf (5 ∷ 10 ∷ 12 ∷ 14 ∷ []) c.args.c.kind → ⊥ = assumption w in
+          let prices : OneOf (6 ∷ 13 ∷ []) c.args.c.kind → ⊥ = assumption w in
+          left_lot c.args.c.kind (omega arith) (omega arith) (omega arith) (λ e. lots (inl e)) (λ e. prices (inl e)) (omega arith)
     ]))

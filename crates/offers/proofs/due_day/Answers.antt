@@ -1,4 +1,3 @@
-use borrow.Author.Rules.{rules}
 use Rattle.offers.proofs.due_day.Goals as goal
 
 pub returns-then-v-days : goal.returns-then-v-days

@@ -1,4 +1,3 @@
-use borrow.Author.Rules.{rules}
 use Rattle.offers.proofs.end_listing.Goals as goal
 
 pub returns : goal.returns

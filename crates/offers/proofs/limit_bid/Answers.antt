@@ -1,6 +1,5 @@
 use mathlib.Core.Path.{sym, ◌∙◌}
 use Rattle.rules.specs.Effects.{limit_bid}
-use borrow.Author.Rules.{rules}
 use Rattle.offers.proofs.limit_bid.Goals as goal
 
 pub returns-then-meets_ask : goal.returns-then-meets_ask

@@ -1,5 +1,4 @@
 use Rattle.rules.specs.Effects.{market_bid}
-use borrow.Author.Rules.{rules}
 use Rattle.offers.proofs.market_bid.Goals as goal
 
 pub returns : goal.returns

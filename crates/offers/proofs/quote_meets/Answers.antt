@@ -1,7 +1,6 @@
 use mathlib.Core.Bool.{Bool, ◌&&◌}
 use mathlib.Core.Path.{ap}
 use lib.Dec.{eqb}
-use borrow.Author.Rules.{rules}
 use Rattle.offers.proofs.quote_meets.Goals as goal
 
 pub returns : goal.returns

@@ -1,5 +1,4 @@
 use Rattle.rules.specs.Effects.{register}
-use borrow.Author.Rules.{rules}
 use Rattle.offers.proofs.register_at.Goals as goal
 
 pub returns : goal.returns

@@ -1,4 +1,3 @@
-use borrow.Author.Rules.{rules}
 use Rattle.offers.proofs.stand.Goals as goal
 
 pub returns : goal.returns

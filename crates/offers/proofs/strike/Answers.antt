@@ -1,6 +1,5 @@
 use native.Mathlib.Omega.{arith}
 use Rattle.zone.specs.Laws.Facts.{bounds}
-use borrow.Author.Rules.{rules}
 use Rattle.offers.proofs.strike.Goals as goal
 
 pub due_day-requires : goal.due_day-requires

@@ -1,5 +1,4 @@
 use Rattle.rules.specs.Effects.{withdraw_bid}
-use borrow.Author.Rules.{rules}
 use Rattle.offers.proofs.withdraw_bid.Goals as goal
 
 pub returns : goal.returns

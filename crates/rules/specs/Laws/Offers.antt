@@ -6,7 +6,7 @@ use Rattle.std.proofs.Common.{true≢false, arith}
 use Rattle.std.proofs.Math.Path.{refl, sym}
 use borrow.Author.Tests.{ltb-false, leb-true, not-false, not-true, eqb-true, eqb-false}
 use Rattle.std.proofs.Math.Dec.{eqb}
-use Rattle.units.specs.Payments.{payable, per_receipt}
+use Rattle.units.specs.Payments.{per_receipt}
 use Rattle.units.specs.Ranges.{account_count, most_price, is_price, last_day, last_due, most_days}
 use Rattle.zone.specs.declared.Bid.{Bid}
 use Rattle.zone.specs.declared.Lot.TheVariants.{Idle}

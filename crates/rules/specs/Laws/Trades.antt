@@ -30,7 +30,7 @@ use Rattle.rules.specs.Laws.Fit.{Fit, quiet, holding, kept, ending, paying, idle
 use Rattle.rules.specs.Laws.Kinds.{with_kind}
 use Rattle.rules.specs.Laws.Offers.{FitsAt, Tested}
 use Rattle.rules.specs.Laws.Passed.{in_state}
-use Rattle.rules.specs.Laws.Receipts.{Parties, parties, PartPaid, part_paid, part_of, confirmed_invoices, seller_in, buyer_in, differ_in, trade_in, full_in, owned_in, sellers, buyers, held_deposit, held_full, held_own}
+use Rattle.rules.specs.Laws.Receipts.{Parties, parties, PartPaid, part_paid, part_of, confirmed_invoices, differ_in, trade_in, full_in, owned_in, sellers, buyers, held_deposit, held_full, held_own}
 use Rattle.rules.specs.Laws.Tables.{among_one, among_none, cond_same}
 use Rattle.rules.specs.Numbers.{above_invoice}
 use Rattle.rules.specs.Tables.{among}

@@ -6,7 +6,6 @@ use Rattle.zone.specs.Held.{full}
 use Rattle.zone.specs.Laws.Facts.{bounds}
 use Rattle.rules.specs.Effects.{confirm}
 use Rattle.rules.specs.Laws.Receipts.{PartPaid, part_paid}
-use borrow.Author.Rules.{rules}
 use Rattle.trades.proofs.confirm_at.Goals as goal
 use Rattle.trades.proofs.confirm_at.Goals.{Start, After-part_payment-part}
 

@@ -1,5 +1,4 @@
 use borrow.Author.Tests.{eq-eqb, ne_eqb}
-use borrow.Author.Rules.{rules}
 use Rattle.trades.proofs.confirmed_lot.Goals as goal
 
 pub returns-then-confirmed-full : goal.returns-then-confirmed-full

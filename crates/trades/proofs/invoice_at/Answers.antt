@@ -1,5 +1,4 @@
 use Rattle.rules.specs.Effects.{send_invoice}
-use borrow.Author.Rules.{rules}
 use Rattle.trades.proofs.invoice_at.Goals as goal
 
 pub returns : goal.returns

@@ -1,5 +1,4 @@
 use Rattle.rules.specs.Effects.{lodge}
-use borrow.Author.Rules.{rules}
 use Rattle.trades.proofs.lodge_at.Goals as goal
 
 pub returns : goal.returns

@@ -4,7 +4,6 @@ use Rattle.zone.specs.Held.{full}
 use Rattle.zone.specs.Laws.Facts.{bounds}
 use Rattle.zone.specs.Laws.Held.{full_le}
 use Rattle.rules.specs.Effects.{pay_first}
-use borrow.Author.Rules.{rules}
 use Rattle.trades.proofs.pay_first.Goals as goal
 
 pub full_of-requires : goal.full_of-requires
