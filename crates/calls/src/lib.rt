@@ -1,5 +1,6 @@
 // What an accepted call does in an image, part by part.
 #![tactic(auto)]
+
 ghost use Rattle.std.specs.Prelude.{true, ◌≡◌, ◌≤◌, length};
 ghost use Rattle.units.specs.Ranges.{receipt_count};
 ghost use Rattle.zone.specs.Valid.{valid_zone};

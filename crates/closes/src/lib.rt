@@ -1,6 +1,7 @@
 // The code of the closes, kinds 11 and 15, at a lot that they come by: in each case the record is put, the money is moved that moves there,
 // and the entry is given.
 #![tactic(auto)]
+
 ghost use Rattle.std.specs.Prelude.{◌≡◌, ◌+◌, ◌≤◌, leb};
 ghost use Rattle.units.specs.Payments.{deposit};
 ghost use Rattle.units.specs.Ranges.{money_limit};

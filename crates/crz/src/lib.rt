@@ -1,5 +1,6 @@
 // The entries that a C host calls.
 #![tactic(auto)]
+
 ghost use Rattle.std.specs.Prelude.{true, ◌≡◌, ◌*◌, ◌≤◌, length, take};
 ghost use Rattle.image.specs.Image.{valid_image, decode, encode};
 ghost use Rattle.rules.specs.declared.Step.TheVariants.{Accepted};

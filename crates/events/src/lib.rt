@@ -1,5 +1,6 @@
 // An event posted in an image: the lot's receipt is changed, and its money follows.
 #![tactic(auto)]
+
 ghost use Rattle.std.specs.Prelude.{◌≡◌};
 ghost use Rattle.image.specs.Image.{decode, encode, Encoded};
 ghost use Rattle.rules.specs.Events.{money_of, posted};

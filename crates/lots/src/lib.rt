@@ -1,5 +1,6 @@
 // A call at one lot of an image: what its rule reads, and what it does there.
 #![tactic(auto)]
+
 ghost use Rattle.std.specs.Prelude.{true, ◌≡◌, ℕ, ◌+◌, ◌≤◌, ◌<◌, length};
 ghost use Rattle.units.specs.Ranges.{contract_count, receipt_count};
 ghost use Rattle.zone.specs.Valid.{record_valid, valid_zone};

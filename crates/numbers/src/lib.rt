@@ -1,5 +1,6 @@
 // The number of a call: the first of 3 to 13 that applies, 0 where none does.
 #![tactic(auto)]
+
 ghost use Rattle.std.specs.Prelude.{true, ◌≡◌, ◌≤◌, ◌<◌, ◌^◌};
 ghost use Rattle.units.specs.Ranges.{is_amount, most_price, money_limit};
 ghost use Rattle.zone.specs.Held.{held_from};

@@ -1,5 +1,6 @@
 // The outcome of a call at the receipt that it names: a refusal number, or what the rule of its kind does there.
 #![tactic(auto)]
+
 ghost use Rattle.std.specs.Prelude.{true, ◌≡◌};
 ghost use Rattle.rules.specs.Effects.{rule_of, sweeps};
 ghost use Rattle.rules.specs.Ready.{Ready, ReadyCall};

@@ -1,5 +1,6 @@
 // A lot that a call through all lots comes by: what the call does there, in the image.
 #![tactic(auto)]
+
 ghost use Rattle.std.specs.Prelude.{true, ◌≡◌, ◌≤◌};
 ghost use Rattle.units.specs.Ranges.{receipt_count};
 ghost use Rattle.zone.specs.Valid.{valid_zone};

@@ -6,7 +6,6 @@ use borrow.Author.Tests.{eq-eqb, ne_eqb}
 use lib.Dec.{eqb}
 use Rattle.rules.specs.Order.{answer_order}
 use Rattle.answers.specs.Laws.Entries.{as_they_stand}
-use borrow.Author.Rules.{rules}
 use Rattle.calls.proofs.answer_order.Goals as goal
 
 pub returns-then-kind-eq-KIND_QUOTE : goal.returns-then-kind-eq-KIND_QUOTE

@@ -13,7 +13,6 @@ use Rattle.rules.specs.declared.Call.{Call}
 use Rattle.rules.specs.Effects.{ending}
 use Rattle.events.specs.Laws.Moved.{encoded}
 use Rattle.calls.specs.Laws.Good.{cleared}
-use borrow.Author.Rules.{rules}
 use Rattle.calls.proofs.end_call.Goals as goal
 
 as_was : (c : Call) (z : Zone) → (c.kind ≡ 11 → ⊥) → (c.kind ≡ 15 → ⊥) → z ≡ ending c z

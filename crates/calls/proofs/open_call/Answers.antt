@@ -25,7 +25,6 @@ use Rattle.rules.specs.Laws.Ready.{MoneyIn, MoneyOut, money_in, money_out, quote
 use Rattle.rules.specs.Laws.Tables.{put_index}
 use Rattle.events.specs.Laws.Moved.{Moved, moved, encoded}
 use Rattle.lots.specs.Laws.Visits.{good_decode}
-use borrow.Author.Rules.{rules}
 use Rattle.calls.proofs.open_call.Goals as goal
 use Rattle.calls.proofs.open_call.Goals.{Start, In-1, In-2, In-9, After-total_in-total, After-credit_to, After-debit_from}
 

@@ -1,7 +1,6 @@
 -- An opening, the lots that the call names, an ending; each leaves the image of a good zone. The entries are put in order last.
 use mathlib.Core.Bool.{false}
 use mathlib.Core.List.{List}
-use mathlib.Core.Logic.{⊎_elim}
 use mathlib.Core.Path.{◌≡◌, sym, ap, ◌∙◌, subst}
 use Prim.Native.Nat.{ℕ, ◌≤◌}
 use native.Mathlib.Omega.{arith}
@@ -28,7 +27,6 @@ use Rattle.calls.specs.Laws.Good.{Of, bytes_of}
 use Rattle.calls.specs.Laws.Lots.{AtReceipt, at_receipt, all_lots}
 use Rattle.calls.specs.Laws.Ordered.{at_lots_few, numbered_lots, ordered_entries}
 use Rattle.calls.specs.Laws.Swept.{same_listed}
-use borrow.Author.Rules.{rules}
 use Rattle.calls.proofs.perform.Goals as goal
 use Rattle.calls.proofs.perform.Goals.{Start, After-open_call, Joined-sweeps, After-end_call, then-sweeps, else-sweeps}
 
@@ -74,18 +72,18 @@ left c =
     let O = bytes_of _ _ c.open_call.ensures (good_opened c.before.before.before.before.before.before.before.before) in
     let answer = c.args.answer.now in
     elim c.if-sweeps.branch [
-      then-sweeps w ↦
-        let A = all_lots c.args.c (sym c.sweeps.ensures ∙ w.if-sweeps.true) in
-        record {
-          zone = w.image-is ∙ w.sweep_lots-count.ensures.0 ∙ ap (λ (y : Zone). encode (sweep (rule_at c.args.c) receipt_count 1 y).zone) O.zone ∙ rw (A.0, A.1);
-          entries = same_listed w.count-is w.answer-is ∙ w.sweep_lots-count.ensures.1 ∙ ap (λ (y : Zone). listed (sweep (rule_at c.args.c) receipt_count 1 y).entries answer) O.zone ∙ rw (A.0, A.1);
-        }
-    | else-sweeps w ↦
-        let e = its_own c.before.before.before.before.before.before.before.before (sym c.sweeps.ensures ∙ w.if-sweeps.false) in
-        record {
-          zone = w.image-is ∙ w.post_one-count.ensures.0 ∙ ap (λ (y : Zone). encode (after_lot y c.args.at).zone) O.zone ∙ ap (λ (d : Done). encode d.zone) (sym e);
-          entries = same_listed w.count-is w.answer-is ∙ w.post_one-count.ensures.1 ∙ ap (λ (y : Zone). listed (after_lot y c.args.at).entries answer) O.zone ∙ ap (λ (d : Done). listed d.entries answer) (sym e);
-        }
+      | then-sweeps w ↦
+          let A = all_lots c.args.c (sym c.sweeps.ensures ∙ w.if-sweeps.true) in
+          record {
+            zone = w.image-is ∙ w.sweep_lots-count.ensures.0 ∙ ap (λ (y : Zone). encode (sweep (rule_at c.args.c) receipt_count 1 y).zone) O.zone ∙ rw (A.0, A.1);
+            entries = same_listed w.count-is w.answer-is ∙ w.sweep_lots-count.ensures.1 ∙ ap (λ (y : Zone). listed (sweep (rule_at c.args.c) receipt_count 1 y).entries answer) O.zone ∙ rw (A.0, A.1);
+          }
+      | else-sweeps w ↦
+          let e = its_own c.before.before.before.before.before.before.before.before (sym c.sweeps.ensures ∙ w.if-sweeps.false) in
+          record {
+            zone = w.image-is ∙ w.post_one-count.ensures.0 ∙ ap (λ (y : Zone). encode (after_lot y c.args.at).zone) O.zone ∙ ap (λ (d : Done). encode d.zone) (sym e);
+            entries = same_listed w.count-is w.answer-is ∙ w.post_one-count.ensures.1 ∙ ap (λ (y : Zone). listed (after_lot y c.args.at).entries answer) O.zone ∙ ap (λ (d : Done). listed d.entries answer) (sym e);
+          }
     ]
 
 -- as many entries as the lots have, and the answer as long as it was

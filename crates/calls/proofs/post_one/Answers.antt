@@ -6,7 +6,6 @@ use Rattle.rules.specs.Events.{after_lot}
 use Rattle.answers.specs.Buffers.{listed}
 use Rattle.events.specs.Posting.{CanPost}
 use Rattle.calls.specs.Laws.Swept.{one_listed}
-use borrow.Author.Rules.{rules}
 use Rattle.calls.proofs.post_one.Goals as goal
 
 pub post-requires : goal.post-requires

@@ -1,8 +1,7 @@
 -- The loop: image and answer are those of a sweep through the lots so far.
 use mathlib.Core.List.{List}
-use mathlib.Core.Logic.{⊎_elim}
 use mathlib.Core.Path.{◌≡◌, sym, ap, ◌∙◌}
-use Prim.Native.Nat.{ℕ, ◌+◌, ◌-◌, ◌≤◌, ◌<◌}
+use Prim.Native.Nat.{ℕ, ◌+◌, ◌<◌}
 use native.Mathlib.Omega.{arith}
 use lib.ListN.{length}
 use lib.Seq.{length-sets}
@@ -19,7 +18,6 @@ use Rattle.lots.specs.Laws.Visits.{good_decode}
 use Rattle.lots.specs.Noted.{entries_of}
 use Rattle.calls.specs.Laws.Good.{Of, bytes_of}
 use Rattle.calls.specs.Laws.Swept.{recorded, sweep_past, good_at, room, next_zone, next_entries, same_listed}
-use borrow.Author.Rules.{rules}
 use Rattle.calls.proofs.sweep_lots.Goals as goal
 use Rattle.calls.proofs.sweep_lots.Goals.{Start, In-loop-i, At-loop-i, After-work_lot-noted, Joined-noted, in-One, in-Nothing}
 
@@ -65,8 +63,8 @@ noted : (c : Joined-noted) → ◌≡◌ {A = ℕ × List ℕ} (c.match-noted.co
 noted c =
     let so_far : ℕ × List ℕ = (c.loop-i.count, c.loop-i.answer) in
     elim c.match-noted.branch [
-      in-One w ↦ same_listed w.count-is (w.answer-is ∙ w.put_entry.ensures) ∙ ap (recorded so_far) (sym w.in-One.is)
-    | in-Nothing w ↦ same_listed w.count-is w.answer-is ∙ ap (recorded so_far) (sym w.in-Nothing.is)
+      | in-One w ↦ same_listed w.count-is (w.answer-is ∙ w.put_entry.ensures) ∙ ap (recorded so_far) (sym w.in-One.is)
+      | in-Nothing w ↦ same_listed w.count-is w.answer-is ∙ ap (recorded so_far) (sym w.in-Nothing.is)
     ]
 
 -- after the lot

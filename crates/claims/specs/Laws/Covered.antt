@@ -3,7 +3,7 @@
 use Rattle.std.specs.Prelude.{Bool, true, false, cond, ◌&&◌, ◌||◌, List, [], ◌∷◌, ◌++◌, ◌≢◌, ◌≡◌, eqb, leb, length, get_or}
 use Rattle.std.proofs.Common.{true≢false, sym, ◌∙◌, subst, add-zero, ne_eqb, eqb-true, leb-false}
 use Rattle.std.proofs.Math.Path.{refl, ap}
-use Prim.Native.Nat.{ℕ, zero, suc, ◌+◌, ◌-◌, ◌≤◌, ◌<◌}
+use Prim.Native.Nat.{ℕ, zero, suc, ◌+◌, ◌≤◌, ◌<◌}
 use Rattle.std.proofs.Math.Decide.{ℕ_discrete}
 use native.Mathlib.Omega.{arith}
 use Rattle.std.proofs.lemmas.Bool.{eqb-false, lt-leb}
@@ -25,7 +25,7 @@ use Rattle.rules.specs.declared.Call.{Call}
 use Rattle.rules.specs.declared.Entry.{Entry}
 use Rattle.rules.specs.Effects.{entry_of, owned_by, event_of, has_money, close_lot, rule_of, rule_at}
 use Rattle.rules.specs.Events.{money_of, posted, after_lot, sweep}
-use Rattle.rules.specs.Laws.Chain.{On, none, event, chosen, only, on_event, Visit, swept}
+use Rattle.rules.specs.Laws.Chain.{On, event, chosen, only, on_event, Visit, swept}
 use Rattle.rules.specs.Laws.Funded.{booked}
 use Rattle.rules.specs.Laws.Good.{Good}
 use Rattle.rules.specs.Laws.Links.{Linked, linked, link_funded, receipt_beside}

@@ -1,7 +1,7 @@
 -- The premium of a receipt: from the rule of each kind to every call, and from there to every list of calls.
 -- Assumes nothing.
 use Rattle.std.proofs.Math.Bool.{Bool, and-false}
-use Rattle.std.specs.Prelude.{true, List, [], ◌∷◌, map, ◌≡◌, refl, ℕ, eqb, leb, ℤ, pos}
+use Rattle.std.specs.Prelude.{List, [], ◌∷◌, map, ◌≡◌, refl, ℕ, eqb, leb, ℤ, pos}
 use Rattle.std.proofs.Common.{true≢false, sym, ap, ◌∙◌, subst, eq-eqb, ne_eqb}
 use Rattle.std.proofs.Math.Logic.{◌≢◌}
 use Rattle.std.proofs.Math.Decide.{ℕ_discrete}

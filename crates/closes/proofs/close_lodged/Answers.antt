@@ -17,7 +17,6 @@ use Rattle.rules.specs.View.{view_of}
 use Rattle.events.specs.Laws.Moved.{Moved, record_kept, next, released, debited, credited}
 use Rattle.events.specs.Laws.Nothing.{debit_nothing, credit_nothing}
 use Rattle.closes.specs.Laws.Closing.{Begun, tells_money, hold_from, settled_begun, buyer_begun, settles, buyer_defaults, worked, ended, held_anew, passed_on, old_in, from_in, to_in, new_in, asked, due_valid, buyer_limit}
-use borrow.Author.Rules.{rules}
 use Rattle.closes.proofs.close_lodged.Goals as goal
 use Rattle.closes.proofs.close_lodged.Goals.{After-has_money, After-receipt_record, After-release_to, After-receipt_record-2, After-release_to-2, After-debit_from}
 

@@ -7,7 +7,6 @@ use Rattle.rules.specs.View.{record_of_receipt}
 use Rattle.events.specs.Laws.Moved.{record_in_place}
 use Rattle.closes.specs.Laws.Closing.{not_due, no_close, idle_worked}
 use Rattle.closes.specs.Visited.{Due}
-use borrow.Author.Rules.{rules}
 use Rattle.closes.proofs.close_lot.Goals as goal
 use Rattle.closes.proofs.close_lot.Goals.{After-record_at-f, After-day_in, Else-day_in-f}
 

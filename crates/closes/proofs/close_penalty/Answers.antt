@@ -15,7 +15,6 @@ use Rattle.rules.specs.View.{free_of}
 use Rattle.events.specs.Laws.Moved.{Moved, record_kept, debited, credited}
 use Rattle.events.specs.Laws.Nothing.{release_nothing}
 use Rattle.closes.specs.Laws.Closing.{Begun, hold_from, penalty_begun, pays_penalty, worked, ended, passed_on, from_in, to_in, nothing_freed, asked}
-use borrow.Author.Rules.{rules}
 use Rattle.closes.proofs.close_penalty.Goals as goal
 use Rattle.closes.proofs.close_penalty.Goals.{After-penalty_passed-passed, After-receipt_record, After-debit_from}
 

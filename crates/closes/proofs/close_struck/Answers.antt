@@ -13,7 +13,6 @@ use Rattle.rules.specs.Events.{release}
 use Rattle.rules.specs.View.{view_of}
 use Rattle.events.specs.Laws.Moved.{record_kept}
 use Rattle.closes.specs.Laws.Closing.{Begun, tells_money, hold_from, seller_begun, both_begun, seller_defaults, both_default, worked, ended, only_released, old_in, due_valid, buyer_limit}
-use borrow.Author.Rules.{rules}
 use Rattle.closes.proofs.close_struck.Goals as goal
 use Rattle.closes.proofs.close_struck.Goals.{After-day_in-tomorrow, After-has_money, After-receipt_record, After-receipt_record-2}
 

@@ -11,7 +11,6 @@ use Rattle.rules.specs.View.{record_of_receipt}
 use Rattle.events.specs.Laws.Moved.{record_in_place, record_kept}
 use Rattle.events.specs.Laws.Nothing.{release_nothing}
 use Rattle.closes.specs.Laws.Closing.{Begun, hold_from, listed_begun, bid_begun, ends, no_offer, idle_worked, worked, ended, only_released, old_in}
-use borrow.Author.Rules.{rules}
 use Rattle.closes.proofs.end_offer.Goals as goal
 use Rattle.closes.proofs.end_offer.Goals.{After-record_at-f, After-receipt_record, After-deposit_per_receipt}
 

@@ -3,7 +3,6 @@ use mathlib.Core.Path.{ap, ◌∙◌}
 use Rattle.rules.specs.declared.Call.{Call}
 use Rattle.crz.specs.Laws.Returned.{record_call}
 use Rattle.crz.specs.Returned.{call_with}
-use borrow.Author.Rules.{rules}
 use Rattle.crz.proofs.crz_call.Goals as goal
 
 pub returns : goal.returns

@@ -6,7 +6,6 @@ use lib.ListN.{length}
 use Rattle.image.specs.Image.{encode}
 use Rattle.image.specs.Layout.{image_length}
 use Rattle.crz.specs.Fresh.{fresh_entry}
-use borrow.Author.Rules.{rules}
 use Rattle.crz.proofs.crz_fresh.Goals as goal
 
 pub returns-then-image-ne-IMAGE_LENGTH : goal.returns-then-image-ne-IMAGE_LENGTH

@@ -4,13 +4,12 @@ use mathlib.Core.List.{List}
 use mathlib.Core.Path.{◌≡◌, sym, ap, ◌∙◌}
 use Prim.Native.Nat.{ℕ}
 use native.Mathlib.Omega.{arith}
-use borrow.Author.Tests.{lt-ltb, le-ltb, not-true, not-false}
+use borrow.Author.Tests.{lt-ltb, le-ltb}
 use lib.ListN.{length}
 use Rattle.image.specs.Image.{valid_image, decode}
 use Rattle.shortfalls.specs.Laws.Figures.{figures_put}
 use Rattle.shortfalls.specs.Shortfalls.{figures_length}
 use Rattle.crz.specs.Figures.{shortfalls_entry}
-use borrow.Author.Rules.{rules}
 use Rattle.crz.proofs.crz_shortfalls.Goals as goal
 use Rattle.crz.proofs.crz_shortfalls.Goals.{Else-not-image_ok}
 

@@ -3,13 +3,11 @@ use mathlib.Core.Bool.{true}
 use mathlib.Core.List.{List}
 use mathlib.Core.Path.{◌≡◌, sym, ap, ◌∙◌}
 use native.Mathlib.Omega.{arith}
-use borrow.Author.Tests.{not-true, not-false}
 use lib.ListN.{length}
 use Rattle.rules.specs.declared.Call.{Call}
 use Rattle.crz.specs.CallTable.{in_turn, table_fits}
 use Rattle.crz.specs.Laws.CallTable.{Fitting, fitting, table_refused, table_made}
 use Rattle.crz.specs.Returned.{call_with}
-use borrow.Author.Rules.{rules}
 use Rattle.crz.proofs.crz_table.Goals as goal
 use Rattle.crz.proofs.crz_table.Goals.{Else-not-table_fits}
 

@@ -4,7 +4,6 @@ use mathlib.Core.List.{List}
 use mathlib.Core.Path.{◌≡◌, sym, ap, ◌∙◌}
 use Prim.Native.Nat.{ℕ}
 use native.Mathlib.Omega.{arith}
-use borrow.Author.Tests.{not-true, not-false}
 use Rattle.image.specs.Image.{valid_image, decode}
 use Rattle.rules.specs.Laws.Steps.{accepted_as}
 use Rattle.answers.specs.Buffers.{padded, cleared}

@@ -1,7 +1,7 @@
 -- One call more, on its own part of the answers; the last one leaves what all of them leave.
-use Rattle.std.proofs.Common.{◌≡◌, suc, ℕ, ◌+◌, ◌-◌, ◌*◌, ◌≤◌, length, take, drop, List, ◌∙◌, arith, length-drop, length-take-le}
+use Rattle.std.proofs.Common.{◌≡◌, suc, ℕ, ◌+◌, ◌-◌, ◌*◌, ◌≤◌, length, drop, List, ◌∙◌, arith, length-drop, length-take-le}
 use Rattle.answers.specs.Buffers.{answer_length}
-use Rattle.crz.specs.Laws.CallTable.{MadeSoFar, one_made, all_made}
+use Rattle.crz.specs.Laws.CallTable.{one_made, all_made}
 use Rattle.crz.proofs.make_calls.Goals as goal
 
 pub loop-i-preserved : goal.loop-i-preserved
@@ -16,7 +16,7 @@ loop-i-preserved c =
     let next : suc l.i ≡ l.i + 1 = omega arith in (
       omega arith,
       rw (part, ← next)
-      (one_made s.calls.now s.image.now s.answers.now l.i c.loop-i-test.true room l.invariant.1 own (rw part at c.make_call.ensures)),
+          (one_made s.calls.now s.image.now s.answers.now l.i c.loop-i-test.true room l.invariant.1 own (rw part at c.make_call.ensures)),
     )
 
 pub returns : goal.returns

@@ -1,7 +1,7 @@
 -- A step that refuses does so by the call's number, which is 3 or more.
 -- Assumes nothing.
 use Rattle.std.specs.Prelude.{Bool, true, false, cond, ◌&&◌, List, [], ◌∷◌, ◌≡◌, refl, ℕ, ◌≤◌, eqb, leb}
-use Rattle.std.proofs.Common.{ap, ◌∙◌, arith, leb-true}
+use Rattle.std.proofs.Common.{ap, arith, leb-true}
 use Rattle.std.proofs.lemmas.Bool.{eqb-false}
 use Rattle.zone.specs.declared.Record.{Record}
 use Rattle.zone.specs.declared.Zone.{Zone}

@@ -4,7 +4,6 @@ use mathlib.Core.Path.{◌≡◌, ◌∙◌}
 use Rattle.rules.specs.Events.{money_of}
 use Rattle.rules.specs.Laws.Tables.{among_joined}
 use Rattle.rules.specs.Tables.{among}
-use borrow.Author.Rules.{rules}
 use Rattle.events.proofs.money_of.Goals as goal
 
 pub returns-then-o : goal.returns-then-o

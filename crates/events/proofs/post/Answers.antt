@@ -11,7 +11,6 @@ use Rattle.rules.specs.Events.{money_moved, accounts_after, posted}
 use Rattle.rules.specs.Ready.{Funds}
 use Rattle.rules.specs.View.{record_of_receipt}
 use Rattle.events.specs.Laws.Moved.{ReceiptPut, record_put, record_kept, encoded, record_valid_lem, record_in_place}
-use borrow.Author.Rules.{rules}
 use Rattle.events.proofs.post.Goals as goal
 use Rattle.events.proofs.post.Goals.{After-record_at, After-hold_of-old, After-hold_of-new, After-receipt_record, After-money_of}
 

@@ -7,7 +7,6 @@ use Rattle.image.specs.Laws.RoundTrip.{ask_in_place}
 use Rattle.rules.specs.Laws.Tables.{nth_index}
 use Rattle.rules.specs.Tables.{nth}
 use Rattle.rules.specs.View.{ask_of}
-use borrow.Author.Rules.{rules}
 use Rattle.lots.proofs.ask_of.Goals as goal
 
 pub returns-then-n-eq0 : goal.returns-then-n-eq0

@@ -3,7 +3,6 @@ use mathlib.Core.Bool.{false}
 use mathlib.Core.Path.{◌≡◌, sym, ap, ◌∙◌}
 use Prim.Native.Nat.{◌-◌}
 use native.Mathlib.Omega.{arith}
-use borrow.Author.Tests.{not-false, not-true}
 use Rattle.units.specs.Ranges.{is_account, account_count}
 use Rattle.zone.specs.declared.Account.{Account}
 use Rattle.zone.specs.Laws.Tests.{InRange, range_in}
@@ -13,7 +12,6 @@ use Rattle.image.specs.Laws.RoundTrip.{decode_sized, account_in_place}
 use Rattle.rules.specs.Laws.Moves.{free_index}
 use Rattle.rules.specs.View.{free_of}
 use Rattle.lots.specs.Laws.Past.{nth_outside}
-use borrow.Author.Rules.{rules}
 use Rattle.lots.proofs.free_of.Goals as goal
 use Rattle.lots.proofs.free_of.Goals.{Else-not-is_account}
 

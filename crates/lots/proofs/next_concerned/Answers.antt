@@ -4,7 +4,6 @@ use mathlib.Core.Path.{◌≡◌, sym, ap, subst, ◌∙◌}
 use Prim.Native.Nat.{ℕ, ◌+◌, ◌-◌, ◌≤◌, ◌<◌}
 use native.Mathlib.Decide.{ℕ_discrete}
 use native.Mathlib.Omega.{arith}
-use Rattle.units.specs.Ranges.{receipt_count}
 use Rattle.image.specs.Image.{decode}
 use Rattle.image.specs.Layout.{record_in, receipt_run}
 use Rattle.image.specs.Laws.RoundTrip.{same_long, valid_fits}
@@ -14,7 +13,6 @@ use Rattle.rules.specs.View.{record_of_receipt}
 use Rattle.events.specs.Laws.Moved.{record_in_place}
 use Rattle.lots.specs.Concerned.{concerned}
 use Rattle.lots.specs.Laws.Over.{passed_over}
-use borrow.Author.Rules.{rules}
 use Rattle.lots.proofs.next_concerned.Goals as goal
 use Rattle.lots.proofs.next_concerned.Goals.{Else-concerns}
 

@@ -2,7 +2,6 @@
 use mathlib.Core.Bool.{false}
 use mathlib.Core.Path.{◌≡◌, sym, ap, ◌∙◌}
 use native.Mathlib.Omega.{arith}
-use borrow.Author.Tests.{not-false, not-true}
 use Rattle.units.specs.Ranges.{is_receipt, receipt_count}
 use Rattle.zone.specs.Laws.Tests.{InRange, range_in}
 use Rattle.zone.specs.Record.{record_of}
@@ -12,7 +11,6 @@ use Rattle.image.specs.Laws.RoundTrip.{same_long, decode_sized}
 use Rattle.rules.specs.View.{receipt_of_number}
 use Rattle.events.specs.Laws.Moved.{record_in_place}
 use Rattle.lots.specs.Laws.Past.{nth_outside}
-use borrow.Author.Rules.{rules}
 use Rattle.lots.proofs.record_of_receipt.Goals as goal
 use Rattle.lots.proofs.record_of_receipt.Goals.{Else-not-is_receipt}
 

@@ -5,7 +5,6 @@ use Rattle.zone.specs.Laws.Tests.{price_at_most}
 use Rattle.rules.specs.Laws.Passed.{ranges_at}
 use Rattle.rules.specs.Numbers.{out_of_range, first_number, number_rows}
 use Rattle.numbers.proofs.NumbersLaws.{From, skip, hit, number_from}
-use borrow.Author.Rules.{rules}
 use Rattle.numbers.proofs.first_number.Goals as goal
 use Rattle.numbers.proofs.first_number.Goals.{Start, Else-ill_formed, Else-out_of_range, Else-wrong_phase, Else-wrong_state, Else-wrong_party, Else-not_above, Else-lacks_ask, Else-not_payable, Else-lacks_money, Else-above_limit, Else-above_invoice}
 

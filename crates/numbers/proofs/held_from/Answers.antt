@@ -1,13 +1,11 @@
 use mathlib.Core.Bool.{true}
 use mathlib.Core.Path.{◌≡◌, sym, ap, ◌∙◌}
-use Prim.Native.Nat.{◌<◌, ◌≤◌, ◌^◌}
 use native.Mathlib.Omega.{arith}
 use borrow.Author.Tests.{eq-eqb, ne_eqb}
 use lib.Dec.{eqb}
 use Rattle.zone.specs.declared.Hold.{Hold}
 use Rattle.zone.specs.Held.{held_from, fen_from}
 use Rattle.zone.specs.Laws.Held.{held_from_le}
-use borrow.Author.Rules.{rules}
 use Rattle.numbers.proofs.held_from.Goals as goal
 use Rattle.numbers.proofs.held_from.Goals.{After-hold_of-h}
 

@@ -1,5 +1,4 @@
 use Rattle.rules.specs.Numbers.{ill_formed}
-use borrow.Author.Rules.{rules}
 use Rattle.numbers.proofs.ill_formed.Goals as goal
 
 pub returns : goal.returns

@@ -3,7 +3,6 @@ use borrow.Author.Tests.{ne_eqb}
 use Rattle.rules.specs.Laws.Kinds.{with_kind}
 use Rattle.rules.specs.Numbers.{lacks_money}
 use Rattle.rules.specs.Laws.Arms.{at_run, above, below}
-use borrow.Author.Rules.{rules}
 use Rattle.std.proofs.Common.{arith}
 use Rattle.numbers.proofs.lacks_money.Goals as goal
 

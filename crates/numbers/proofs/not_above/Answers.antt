@@ -1,6 +1,5 @@
 use mathlib.Core.Path.{refl}
 use Rattle.rules.specs.Numbers.{not_above}
-use borrow.Author.Rules.{rules}
 use Rattle.numbers.proofs.not_above.Goals as goal
 
 pub returns : goal.returns

@@ -1,7 +1,6 @@
 use native.Mathlib.Omega.{arith}
 use borrow.Author.Tests.{eq-eqb, ne_eqb}
 use Rattle.rules.specs.Numbers.{not_payable}
-use borrow.Author.Rules.{rules}
 use Rattle.numbers.proofs.not_payable.Goals as goal
 
 pub overflow_cast-c : goal.overflow_cast-c

@@ -1,5 +1,4 @@
 use Rattle.rules.specs.Numbers.{out_of_range}
-use borrow.Author.Rules.{rules}
 use Rattle.numbers.proofs.out_of_range.Goals as goal
 
 pub returns : goal.returns

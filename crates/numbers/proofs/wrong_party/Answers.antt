@@ -1,12 +1,12 @@
 use mathlib.Core.Bool.{Bool, not-not}
 use mathlib.Core.List.{[], ◌∷◌}
-use mathlib.Core.Logic.{⊎_elim, inl}
+use mathlib.Core.Logic.{inl}
 use mathlib.Core.Path.{refl, sym, ◌∙◌}
 use Prim.Native.Nat.{ℕ, ◌≤◌}
 use Rattle.rules.specs.Laws.Kinds.{with_kind}
 use Rattle.rules.specs.Numbers.{wrong_party}
 use Rattle.rules.specs.Laws.Arms.{at_keys, at_run, past, no_key, above, below}
-use Rattle.std.proofs.Common.{arith, ne_eqb}
+use Rattle.std.proofs.Common.{arith}
 use Rattle.numbers.proofs.wrong_party.Goals as goal
 use Rattle.numbers.proofs.wrong_party.Goals.{in-5-1, in_default+else-kind-lt4+else-kind-lt8+else-kind-lt12+then-kind-lt14}
 use types.Run.{OneOf}
@@ -55,7 +55,7 @@ unfolding wrong_party
 returns-in-5 c =
     let a = c.args in
     elim c.in-5-1.branch [
-      in-5-1 w ↦ at_keys (at_kind a.c a.f) (5 ∷ 10 ∷ []) {n = a.c.kind} (refl, (refl, tt)) (assumption w)
-    | in_default+else-kind-lt4+else-kind-lt8+else-kind-lt12+then-kind-lt14 w ↦
-        at_run (at_kind a.c a.f) 12 2 {n = a.c.kind} (refl, (refl, tt)) (omega arith) (omega arith)
+      | in-5-1 w ↦ at_keys (at_kind a.c a.f) (5 ∷ 10 ∷ []) {n = a.c.kind} (refl, (refl, tt)) (assumption w)
+      | in_default+else-kind-lt4+else-kind-lt8+else-kind-lt12+then-kind-lt14 w ↦
+          at_run (at_kind a.c a.f) 12 2 {n = a.c.kind} (refl, (refl, tt)) (omega arith) (omega arith)
     ]

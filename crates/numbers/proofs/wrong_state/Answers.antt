@@ -5,7 +5,7 @@ use borrow.Author.Tests.{ne_eqb}
 use Rattle.rules.specs.Laws.Kinds.{with_kind}
 use Rattle.rules.specs.Laws.Tables.{among_joined, cond_or}
 use Rattle.rules.specs.Numbers.{wrong_state}
-use Rattle.rules.specs.Laws.Arms.{at_run, past, above, below}
+use Rattle.rules.specs.Laws.Arms.{at_run, above, below}
 use Rattle.std.proofs.Common.{arith}
 use Rattle.numbers.proofs.wrong_state.Goals as goal
 

@@ -1,6 +1,5 @@
 use borrow.Author.Tests.{lt-ltb, le-ltb}
 use Rattle.shortfalls.specs.Shortfalls.{excess}
-use borrow.Author.Rules.{rules}
 use Rattle.shortfalls.proofs.excess.Goals as goal
 
 pub returns-then-m-n : goal.returns-then-m-n

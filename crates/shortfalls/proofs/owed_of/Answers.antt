@@ -10,7 +10,6 @@ use Rattle.zone.specs.Laws.Facts.{bounds}
 use Rattle.zone.specs.Laws.Tests.{inside}
 use Rattle.rules.specs.Laws.Tables.{cond_same}
 use Rattle.shortfalls.specs.Walk.{owed_of}
-use borrow.Author.Rules.{rules}
 use Rattle.shortfalls.proofs.owed_of.Goals as goal
 
 -- below or above the states of a trade

@@ -8,7 +8,7 @@ use lib.ListN.{set}
 use Rattle.units.specs.declared.Fen.{Fen}
 use Rattle.units.specs.Payments.{fen}
 use Rattle.units.specs.Laws.Bounds.{most_full}
-use Rattle.units.specs.Ranges.{account_count, receipt_count}
+use Rattle.units.specs.Ranges.{account_count}
 use Rattle.zone.specs.Valid.{record_valid}
 use Rattle.image.specs.Laws.RoundTrip.{valid_long, record_ok}
 use Rattle.verdict.specs.Sums.{sums_by}
@@ -16,7 +16,6 @@ use Rattle.verdict.specs.Laws.Sums.{sum_at, add_some, add_none, hold_valid}
 use Rattle.verdict.specs.Laws.Walk.{rec, last_records, sums_none, sums_turn, sum_room}
 use Rattle.shortfalls.specs.Walk.{owed_of, valid_owed}
 use Rattle.shortfalls.specs.Laws.Owed.{owed_known, owed_small}
-use borrow.Author.Rules.{rules}
 use Rattle.shortfalls.proofs.owed_sums.Goals as goal
 use Rattle.shortfalls.proofs.owed_sums.Goals.{After-owed_of-h}
 

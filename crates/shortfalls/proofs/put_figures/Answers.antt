@@ -6,12 +6,6 @@ use Rattle.image.specs.Image.{decode}
 use Rattle.image.specs.Layout.{afternoon_in}
 use Rattle.image.specs.Laws.RoundTrip.{valid_long}
 use Rattle.shortfalls.specs.Laws.Figures.{no_figures}
-use borrow.Author.Rules.{rules}
-use Rattle.shortfalls.proofs.put_figures.Reads as reads
-use Rattle.shortfalls.proofs.put_figures.Lts as lts
-use Rattle.image.proofs.afternoon_in.Reads as afternoon-in-reads
-use Rattle.shortfalls.proofs.put_morning_figures.Reads as put-morning-figures-reads
-use Rattle.wire.proofs.put_zeros.Reads as put-zeros-reads
 use Rattle.shortfalls.proofs.put_figures.Goals as goal
 
 pub afternoon_in-requires : goal.afternoon_in-requires

@@ -1,7 +1,7 @@
 -- The first i figures are put; the measure is the accounts that are left.
 use mathlib.Core.List.{List}
 use mathlib.Core.Path.{◌≡◌, refl, sym, ap, ◌∙◌}
-use Prim.Native.Nat.{ℕ, suc, ◌+◌, ◌*◌, ◌-◌, ◌≤◌, ◌<◌}
+use Prim.Native.Nat.{ℕ, suc, ◌+◌, ◌*◌, ◌≤◌, ◌<◌}
 use native.Mathlib.Omega.{arith}
 use lib.ListN.{length, take, get_or}
 use lib.Seq.{sets, take_all, length-sets}
@@ -14,7 +14,6 @@ use Rattle.image.specs.Laws.Table.{length_table, get_d_table, put_more}
 use Rattle.image.specs.Table.{table_bytes}
 use Rattle.shortfalls.specs.Laws.Figures.{morning_figure, figure_wide}
 use Rattle.shortfalls.specs.Shortfalls.{shortfall, figure_length, figures_of, figure_bytes}
-use borrow.Author.Rules.{rules}
 use Rattle.shortfalls.proofs.put_morning_figures.Goals as goal
 
 pub day_in-requires : goal.day_in-requires

@@ -3,9 +3,8 @@
 use Rattle.std.specs.Prelude.{Bool, true, false, cond, ◌&&◌, List, [], ◌∷◌, map, ◌≡◌, refl, ℕ, ◌+◌, ◌-◌, ◌≤◌, ◌<◌, eqb, ltb}
 use Rattle.std.proofs.Common.{◌∙◌, arith, eqb-true, ltb-true, ltb-false}
 use Rattle.units.specs.Laws.Bounds.{most_full}
-use Rattle.units.specs.Payments.{fen, deposit, penalty}
+use Rattle.units.specs.Payments.{deposit, penalty}
 use Rattle.units.specs.Ranges.{within, account_count}
-use Rattle.zone.specs.declared.Account.{Account}
 use Rattle.zone.specs.declared.Hold.{Hold}
 use Rattle.zone.specs.declared.Receipt.{Receipt}
 use Rattle.zone.specs.declared.Record.{Record}

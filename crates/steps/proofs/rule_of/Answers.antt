@@ -3,7 +3,6 @@ use mathlib.Core.Path.{◌≡◌, sym, ap, ◌∙◌}
 use Prim.Native.Nat.{ℕ}
 use Rattle.rules.specs.Effects.{rule_of, withdraw_listing}
 use Rattle.steps.proofs.StepsLaws.{no_event}
-use borrow.Author.Rules.{rules}
 use Rattle.steps.proofs.rule_of.Goals as goal
 use Rattle.steps.proofs.rule_of.Goals.{Start}
 

@@ -2,7 +2,6 @@
 use mathlib.Core.Bool.{true}
 use mathlib.Core.Path.{◌≡◌, sym, ap, ◌∙◌}
 use native.Mathlib.Omega.{arith}
-use borrow.Author.Tests.{not-true, not-false}
 use lib.ListN.{set}
 use Prim.Native.Nat.{◌-◌}
 use mathlib.Core.List.{List}
@@ -24,7 +23,6 @@ use Rattle.lots.specs.Laws.Visits.{good_decode}
 use Rattle.lots.specs.declared.Noted.TheVariants.{One}
 use Rattle.visits.specs.Laws.Strikes.{not_met, met, money_stays}
 use Rattle.lots.specs.Noted.{entries_of}
-use borrow.Author.Rules.{rules}
 use Rattle.visits.proofs.strike_lot.Goals as goal
 use Rattle.visits.proofs.strike_lot.Goals.{After-record_at-f, After-view_of-v, After-quote_meets, After-struck_record}
 

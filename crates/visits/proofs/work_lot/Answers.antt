@@ -4,7 +4,6 @@ use Prim.Native.Nat.{ℕ}
 use native.Mathlib.Omega.{arith}
 use Rattle.rules.specs.Effects.{sweeps, sweep_kinds}
 use Rattle.rules.specs.Laws.Tables.{among_each}
-use borrow.Author.Rules.{rules}
 use Rattle.visits.proofs.work_lot.Goals as goal
 
 -- neither a quote nor a morning close

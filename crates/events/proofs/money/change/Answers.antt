@@ -12,7 +12,6 @@ use Rattle.image.specs.Image.{decode, encode}
 use Rattle.image.specs.Laws.RoundTrip.{same_long, account_in_place}
 use Rattle.rules.specs.View.{free_of, frozen_of}
 use Rattle.events.specs.Laws.Changed.{at_index, changed_nobody, changed_index}
-use borrow.Author.Rules.{rules}
 use Rattle.events.proofs.money.change.Goals as goal
 use Rattle.events.proofs.money.change.Goals.{After-account_at-v}
 

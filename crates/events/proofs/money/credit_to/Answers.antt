@@ -5,7 +5,6 @@ use Rattle.zone.specs.declared.Account.{Account}
 use Rattle.zone.specs.Parts.{with_accounts}
 use Rattle.image.specs.Image.{decode, encode}
 use Rattle.events.specs.Laws.Changed.{credit_changed}
-use borrow.Author.Rules.{rules}
 use Rattle.events.proofs.money.credit_to.Goals as goal
 
 pub change-requires : goal.change-requires

@@ -6,7 +6,6 @@ use Rattle.zone.specs.Parts.{with_accounts}
 use Rattle.image.specs.Image.{decode, encode}
 use Rattle.rules.specs.Laws.Moves.{at_most}
 use Rattle.events.specs.Laws.Changed.{freeze_changed}
-use borrow.Author.Rules.{rules}
 use Rattle.events.proofs.money.freeze_from.Goals as goal
 
 pub change-requires : goal.change-requires

@@ -5,7 +5,6 @@ use Rattle.image.specs.Laws.RoundTrip.{decode_sized}
 use Rattle.rules.specs.Events.{credit, debit, release, freeze}
 use Rattle.rules.specs.Laws.Funded.{pass_free, hold_free, all_debited}
 use Rattle.events.specs.Laws.Moved.{Moved, next, encoded, released, debited, credited}
-use borrow.Author.Rules.{rules}
 use Rattle.events.proofs.money.move_money.Goals as goal
 use Rattle.events.proofs.money.move_money.Goals.{After-release_to, After-debit_from, After-credit_to}
 
