@@ -64,7 +64,7 @@ NoneInAfternoon =
 
 -- ── Paid in, and closed ────────────────────────────────────────────────────────────────────────
 
--- n fen paid in by account x, and the image after it: one accepted pay_in_lem, and no call where n is 0
+-- n fen paid in by account x, and the image after it: one accepted pay-in, and no call where n is 0
 pub data PaidIn (image : List ℕ) (x : ℕ) : ℕ → List ℕ → Type 0 where
   no_call : PaidIn image x 0 image
   by_call : (call answer image' answer' : List ℕ) → Returned image call answer 0 image' answer' → (call_in call).kind ≡ 1 → (call_in call).account ≡ x

@@ -91,7 +91,7 @@ module _ (c : Call) (z : Zone) (h : HistoryTable) (S : Sized z) (I : InStep z h)
         linked = I.linked;
       }
 
-  -- neither pay_in_lem nor take-out
+  -- neither pay-in nor take-out
   no_paid_in_or_out : (b : Call) → eqb b.kind 1 ≡ false → eqb b.kind 2 ≡ false → InStep z (paid_in_or_out b h)
   unfolding paid_in_or_out
   no_paid_in_or_out b e1 e2 = record { money = λ x q. rw (e1, e2, fen_zero x b.account) (omega (arith, I.money x q)); linked = I.linked }

@@ -1,4 +1,4 @@
--- What the figures promise, on bytes: a pay_in_lem and a morning close by what the calls promise, and what holds of them on values.
+-- What the figures promise, on bytes: a pay-in and a morning close by what the calls promise, and what holds of them on values.
 -- Assumes nothing.
 use Rattle.std.specs.Prelude.{true, false, List, ◌++◌, ◌≡◌, refl, ℕ, zero, suc, ◌+◌, ◌^◌, ◌≤◌, drop}
 use Rattle.std.proofs.Common.{sym, ap, ◌∙◌, subst, arith, drop_at}
@@ -83,7 +83,7 @@ unfolding shortfall decode
 none_in_afternoon image figures image' figures' R e zero h = refl
 none_in_afternoon image figures image' figures' R e (suc k) h = (figures_read image figures image' figures' R (suc k) (omega arith) h).is ∙ rw e
 
--- ── A pay_in_lem ───────────────────────────────────────────────────────────────────────────────────
+-- ── A pay-in ───────────────────────────────────────────────────────────────────────────────────
 
 -- zone y is z with n fen more for account x
 record PaidZone (z : Zone) (x n : ℕ) (y : Zone) : Type 0 where
@@ -150,7 +150,7 @@ morning_shortfall : (z : Zone) (x : ℕ) → z.afternoon ≡ false → shortfall
 unfolding shortfall
 morning_shortfall z x m = rw m
 
--- a pay_in_lem moves nothing of it
+-- a pay-in moves nothing of it
 owed_same : {z : Zone} {x n : ℕ} {y : Zone} → PaidZone z x n y → owed y x ≡ owed z x
 owed_same P = rw (P.day, P.receipts)
 
