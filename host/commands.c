@@ -304,9 +304,11 @@ enum status command_new(const struct request *request)
 enum status command_import(const struct request *request)
 {
     const char *path = request->words[0];
-    int older = 0;
+    const struct layout *older = NULL;
+    char what[128] = "a zone with that image,";
     enum status status = zone_import(path, request->words[1], &older);
-    const char *what = older ? "a zone with that older image, every premium 0," : "a zone with that image,";
+    if (older != NULL)
+        snprintf(what, sizeof what, "a zone with that older image, %s,", older->added);
     return status == STATUS_ACCEPTED ? show_file(path, what, 0) : status;
 }
 

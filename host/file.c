@@ -10,7 +10,6 @@
 #include <sys/stat.h>
 #include <unistd.h>
 
-#include "../include/crz_records.h"
 #include "digits.h"
 #include "report.h"
 
@@ -156,17 +155,20 @@ static ssize_t read_whole(int file, uint8_t *bytes)
     return have;
 }
 
-/* A zone means the same with premium 0 in each of its receipts. */
-static void add_premiums(const uint8_t *older, uint8_t image[CRZ_IMAGE_LENGTH])
+int file_may_be_image(size_t length)
 {
-    memset(image, 0, CRZ_IMAGE_LENGTH);
-    memcpy(image, older, CRZ_IMAGE_RECEIPTS);
-    older += CRZ_IMAGE_RECEIPTS;
-    for (uint32_t n = 1; n <= CRZ_RECEIPT_COUNT; n++, older += FILE_OLDER_RECEIPT)
-        memcpy(image + crz_receipt_offset(n), older, FILE_OLDER_RECEIPT);
+    return length == CRZ_IMAGE_LENGTH || older_layout(length) != NULL;
 }
 
-int file_read_image(const char *path, uint8_t image[CRZ_IMAGE_LENGTH], int *older)
+static int report_length(const char *path)
+{
+    char older[OLDER_WORDS];
+    older_lengths(older);
+    return report(path, "is no raw image: an image has %s bytes, one of an older program %s",
+        grouped(CRZ_IMAGE_LENGTH).text, older);
+}
+
+int file_read_image(const char *path, uint8_t image[CRZ_IMAGE_LENGTH], const struct layout **older)
 {
     uint8_t bytes[CRZ_IMAGE_LENGTH + 1];
     int file = open(path, O_RDONLY | O_CLOEXEC);
@@ -177,12 +179,11 @@ int file_read_image(const char *path, uint8_t image[CRZ_IMAGE_LENGTH], int *olde
     close(file);
     if (have < 0)
         return report(path, "cannot be read: %s", strerror(why));
-    if (have != CRZ_IMAGE_LENGTH && have != FILE_OLDER_IMAGE)
-        return report(path, "is no raw image: an image has %s bytes, one of an older program %s",
-            grouped(CRZ_IMAGE_LENGTH).text, grouped(FILE_OLDER_IMAGE).text);
-    *older = have == FILE_OLDER_IMAGE;
-    if (*older)
-        add_premiums(bytes, image);
+    if (!file_may_be_image((size_t)have))
+        return report_length(path);
+    *older = older_layout((size_t)have);
+    if (*older != NULL)
+        older_to_today(*older, bytes, image);
     else
         memcpy(image, bytes, CRZ_IMAGE_LENGTH);
     return 0;

@@ -21,6 +21,8 @@ void finding_words(const struct finding *finding, char *words, size_t length)
     case SENTENCE_FROZEN: snprintf(words, length, "frozen money of account %u is not what its lots hold", n); break;
     case SENTENCE_OWNER: snprintf(words, length, "receipt %u is not its last buyer's or its registrant's", n); break;
     case SENTENCE_STRIKE: snprintf(words, length, "lot %u was struck for an account that did not bid for it", n); break;
+    case SENTENCE_LOT: snprintf(words, length, "an entry names lot %u, which no zone has", n); break;
+    case SENTENCE_OUTCOME: snprintf(words, length, "an entry has outcome %u, which can be put to no lot", n); break;
     }
 }
 
@@ -52,35 +54,46 @@ static void settle(struct past *past, const struct crz_entry_fields *entry)
     past->since = 0;
 }
 
-static void enter(struct history *history, struct past *past, const struct crz_entry_fields *entry)
+/* Whether the outcome is known. No default: the compiler names one that crz.h adds, for which this is to be decided. */
+static int enter(struct history *history, struct past *past, const struct crz_entry_fields *entry)
 {
-    switch (entry->outcome) {
-    case CRZ_OUTCOME_REGISTERED: past->registrant = (uint8_t)entry->from; break;
+    switch ((enum crz_outcome)entry->outcome) {
+    case CRZ_OUTCOME_REGISTERED: past->registrant = (uint8_t)entry->from; return 1;
     case CRZ_OUTCOME_BID_STANDS:
-    case CRZ_OUTCOME_STRUCK: past->bidder = (uint8_t)entry->from; break;
-    case CRZ_OUTCOME_SETTLED: settle(past, entry); break;
+    case CRZ_OUTCOME_STRUCK: past->bidder = (uint8_t)entry->from; return 1;
+    case CRZ_OUTCOME_SETTLED: settle(past, entry); return 1;
     case CRZ_OUTCOME_FIRST_PAID:
     case CRZ_OUTCOME_PART_PAID:
         past->since += entry->number;
         pass(history, entry);
-        break;
+        return 1;
     case CRZ_OUTCOME_BUYER_DEFAULT:
-    case CRZ_OUTCOME_PENALTY: pass(history, entry); break;
-    default: break;
+    case CRZ_OUTCOME_PENALTY: pass(history, entry); return 1;
+    case CRZ_OUTCOME_LISTED:
+    case CRZ_OUTCOME_ENDED:
+    case CRZ_OUTCOME_BID_WITHDRAWN:
+    case CRZ_OUTCOME_LODGED:
+    case CRZ_OUTCOME_INVOICED:
+    case CRZ_OUTCOME_SELLER_DEFAULT:
+    case CRZ_OUTCOME_BOTH_DEFAULTED: return 1;
     }
+    return 0;
 }
 
-/* One entry, as its lot's last; whether it is no unfair strike. */
-static int take_entry(struct history *history, const uint8_t *call, const struct crz_entry_fields *entry)
+/* One entry, as its lot's last. */
+static struct finding take_entry(struct history *history, const uint8_t *call, const struct crz_entry_fields *entry)
 {
     struct past *past = &history->lots[entry->lot];
     int fair = entry->outcome != CRZ_OUTCOME_STRUCK || strike_fair(past, call, (uint8_t)entry->from);
-    enter(history, past, entry);
+    if (!crz_is_place(entry->lot, CRZ_RECEIPT_COUNT))
+        return (struct finding){SENTENCE_LOT, entry->lot};
+    if (!enter(history, past, entry))
+        return (struct finding){SENTENCE_OUTCOME, entry->outcome};
     past->last = (uint8_t)entry->outcome;
     past->last_from = (uint8_t)entry->from;
     past->last_kind = call[CRZ_CALL_KIND];
     past->last_account = call[CRZ_CALL_ACCOUNT];
-    return fair;
+    return fair ? none : (struct finding){SENTENCE_STRIKE, entry->lot};
 }
 
 struct finding history_feed(struct history *history, const uint8_t *call, const uint8_t *answer)
@@ -94,16 +107,17 @@ struct finding history_feed(struct history *history, const uint8_t *call, const 
         history->take_outs[made.account] += made.amount;
     for (uint32_t i = 0; i < count && i < CRZ_ENTRY_COUNT; i++) {
         struct crz_entry_fields entry = crz_get_entry(answer, i);
-        if (!take_entry(history, call, &entry) && finding.sentence == SENTENCE_NONE)
-            finding = (struct finding){SENTENCE_STRIKE, entry.lot};
+        struct finding found = take_entry(history, call, &entry);
+        if (finding.sentence == SENTENCE_NONE)
+            finding = found;
     }
     return finding;
 }
 
-/* What a lot holds by its last entry, and from whom. */
+/* What a lot holds by its last entry, and from whom; nothing before the first. */
 static uint64_t held_by(const struct past *past, uint8_t *from)
 {
-    switch (past->last) {
+    switch ((enum crz_outcome)past->last) {
     case CRZ_OUTCOME_BID_STANDS:
     case CRZ_OUTCOME_STRUCK:
     case CRZ_OUTCOME_LODGED: *from = past->bidder; return DEPOSIT_HELD;
@@ -111,8 +125,16 @@ static uint64_t held_by(const struct past *past, uint8_t *from)
     case CRZ_OUTCOME_FIRST_PAID:
     case CRZ_OUTCOME_INVOICED:
     case CRZ_OUTCOME_PART_PAID: *from = past->settler; return past->full - past->since;
-    default: return 0;
+    case CRZ_OUTCOME_REGISTERED:
+    case CRZ_OUTCOME_LISTED:
+    case CRZ_OUTCOME_ENDED:
+    case CRZ_OUTCOME_BID_WITHDRAWN:
+    case CRZ_OUTCOME_BUYER_DEFAULT:
+    case CRZ_OUTCOME_SELLER_DEFAULT:
+    case CRZ_OUTCOME_BOTH_DEFAULTED:
+    case CRZ_OUTCOME_PENALTY: break;
     }
+    return 0;
 }
 
 static void add_held(const struct history *history, uint64_t held[HISTORY_ACCOUNTS])

@@ -27,17 +27,28 @@ struct history {
     uint64_t passed[HISTORY_ACCOUNTS], received[HISTORY_ACCOUNTS]; /* transfers from and to the account */
 };
 
-/* The sentences that are held against a zone. */
-enum sentence { SENTENCE_NONE, SENTENCE_BOOKS, SENTENCE_FROZEN, SENTENCE_OWNER, SENTENCE_STRIKE };
+/* The sentences that are held against a zone, and what every entry must have: a lot, and an outcome that is known. */
+enum sentence {
+    SENTENCE_NONE,
+    SENTENCE_BOOKS,
+    SENTENCE_FROZEN,
+    SENTENCE_OWNER,
+    SENTENCE_STRIKE,
+    SENTENCE_LOT,
+    SENTENCE_OUTCOME
+};
 
 struct finding {
     enum sentence sentence; /* SENTENCE_NONE where all hold */
-    unsigned number;        /* the account or the lot that it does not hold for */
+    unsigned number;        /* the account, the lot or the outcome that it does not hold for */
 };
 
 void history_start(struct history *history);
 
-/* Takes an accepted call with its answer. Finds a lot that was struck for another account than the bidder. */
+/*
+ * Takes an accepted call with its answer. Finds a lot that was struck for another account than the bidder, and an entry
+ * that can be put to no lot; the table leaves that one out.
+ */
 struct finding history_feed(struct history *history, const uint8_t *call, const uint8_t *answer);
 
 /* Holds the table against the image after those calls. */

@@ -81,15 +81,15 @@ static int any_above(const uint8_t *image)
 /* ── Messages ──────────────────────────────────────────────────────────────────────────────────── */
 
 /* Paying what is missing here would move money that no call moved; the version that paid so far can go on. */
-static int report_unfinished(const char *path, int older)
+static int report_unfinished(const char *path, const struct layout *older)
 {
     return report(path,
         "these trades were paid in part by the rule of versions before 3.0.0; no zone was made; finish each of them "
         "with %s, invoices confirmed up to the full payment, then export and import again",
-        older ? "the version that made the image" : "version 2.0.0");
+        older != NULL ? older->finished : "version 2.0.0");
 }
 
-int image_report(const char *path, const uint8_t image[CRZ_IMAGE_LENGTH], int older)
+int image_report(const char *path, const uint8_t image[CRZ_IMAGE_LENGTH], const struct layout *older)
 {
     int balanced = valid_by_rule(image, 1);
     if (balanced || valid_by_rule(image, 0))

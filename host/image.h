@@ -2,7 +2,7 @@
 #ifndef IMAGE_H
 #define IMAGE_H
 
-#include "../include/crz.h"
+#include "older.h"
 
 int image_valid(const uint8_t image[CRZ_IMAGE_LENGTH]);
 
@@ -10,6 +10,6 @@ int image_valid(const uint8_t image[CRZ_IMAGE_LENGTH]);
  * Messages about an image that is not valid and from which no zone was made. Where nothing is wrong but what lots have
  * as paid, they name these lots. `older` is that of file_read_image. Returns -1.
  */
-int image_report(const char *path, const uint8_t image[CRZ_IMAGE_LENGTH], int older);
+int image_report(const char *path, const uint8_t image[CRZ_IMAGE_LENGTH], const struct layout *older);
 
 #endif

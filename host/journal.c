@@ -9,6 +9,40 @@
 
 #include "report.h"
 
+/* ── Entries ───────────────────────────────────────────────────────────────────────────────────── */
+
+#define ENTRY(name, lines, ...) const struct entry entry_##name = {"crz_" #name, lines};
+#include "../include/entries.h"
+const struct entry entry_import = {"import", LINE_START};
+
+static const struct entry *const entries[] = {
+#define ENTRY(name, lines, ...) &entry_##name,
+#include "../include/entries.h"
+    &entry_import,
+};
+
+enum { ENTRIES = sizeof entries / sizeof entries[0] };
+
+int line_names(const struct line *line, const struct entry *entry)
+{
+    return strcmp(line->entry, entry->name) == 0;
+}
+
+enum line_kind line_kind(const struct line *line)
+{
+    for (size_t i = 0; i < ENTRIES; i++)
+        if (line_names(line, entries[i]))
+            return entries[i]->lines;
+    return LINE_NONE;
+}
+
+int line_in_table(const struct line *line)
+{
+    return line_kind(line) == LINE_IN_TABLE;
+}
+
+/* ── Hashes ────────────────────────────────────────────────────────────────────────────────────── */
+
 /* The bytes that a line's hash is over. */
 struct text {
     uint8_t bytes[HASH_LENGTH + 8 + 4 + 6 * 5 + TIME_LENGTH + ENTRY_LENGTH + CRZ_CALL_LENGTH + CRZ_ANSWER_LENGTH
@@ -75,6 +109,8 @@ void hash_words(const struct hash *hash, char words[HASH_DIGITS + 1])
         snprintf(words + 2 * i, 3, "%02x", hash->bytes[i]);
 }
 
+/* ── Lines ─────────────────────────────────────────────────────────────────────────────────────── */
+
 static void put_time(char time[TIME_LENGTH + 1])
 {
     struct timespec now = {0};
@@ -90,7 +126,7 @@ void line_start(struct line *line, const uint8_t *imported)
 {
     memset(line, 0, sizeof *line);
     put_time(line->time);
-    strcpy(line->entry, imported == NULL ? ENTRY_FRESH : ENTRY_IMPORT);
+    strcpy(line->entry, imported == NULL ? entry_fresh.name : entry_import.name);
     if (imported == NULL)
         return;
     line->has_further = 1;
@@ -122,7 +158,7 @@ void line_call(struct line *line, uint64_t sequence, const uint8_t *call, uint32
 {
     put_call(line, sequence, call, number, answer);
     put_time(line->time);
-    strcpy(line->entry, ENTRY_CALL);
+    strcpy(line->entry, entry_call.name);
 }
 
 /* What a call of a table returned by itself stands in its answer alone. */
@@ -134,11 +170,6 @@ void line_table(struct line *lines, uint64_t sequence, const uint8_t *calls, con
         const uint8_t *answer = answers + crz_answer_offset(i);
         put_call(&lines[i], sequence + i, calls + crz_call_offset(i), answer[CRZ_ANSWER_NUMBER], answer);
         strcpy(lines[i].time, now);
-        strcpy(lines[i].entry, ENTRY_TABLE);
+        strcpy(lines[i].entry, entry_table.name);
     }
-}
-
-int line_in_table(const struct line *line)
-{
-    return strcmp(line->entry, ENTRY_TABLE) == 0;
 }

@@ -14,17 +14,27 @@
  * commit have none. So the last hash of a journal fixes every byte of the journal and of the image.
  *
  * A call that was made by itself is a commit of one line. The calls of a table are a commit of as many lines, each with
- * ENTRY_TABLE and its own call record, number and answer, and all with one time: a table ends with its image hash.
+ * the table's entry and its own call record, number and answer, and all with one time: a table ends with its image
+ * hash.
  */
 #ifndef JOURNAL_H
 #define JOURNAL_H
 
 #include "../include/crz_records.h"
 
-#define ENTRY_FRESH "crz_fresh"
-#define ENTRY_CALL "crz_call"
-#define ENTRY_TABLE "crz_table"
-#define ENTRY_IMPORT "import" /* a start whose further buffer is the image */
+/* What a line is, by the entry that it names: the start, a call by itself, one of a table; or none, where nobody writes
+ * such lines. */
+enum line_kind { LINE_NONE, LINE_START, LINE_CALL, LINE_IN_TABLE };
+
+/* What a line can name: an entry of the library, or an import, a start whose further buffer is the image. */
+struct entry {
+    const char *name;
+    enum line_kind lines;
+};
+
+#define ENTRY(name, lines, ...) extern const struct entry entry_##name;
+#include "../include/entries.h"
+extern const struct entry entry_import;
 
 enum { HASH_LENGTH = 32, TIME_LENGTH = 24, ENTRY_LENGTH = 31, FURTHER_LENGTH = 8192, HASH_DIGITS = 2 * HASH_LENGTH };
 
@@ -52,12 +62,15 @@ struct line {
 /* The first line of a zone that starts now: fresh, or with the image given. */
 void line_start(struct line *line, const uint8_t *imported);
 
-/* The line of a call made now through ENTRY_CALL. */
+/* The line of a call made now by itself. */
 void line_call(struct line *line, uint64_t sequence, const uint8_t *call, uint32_t number, const uint8_t *answer);
 
-/* The lines of `count` calls made now through ENTRY_TABLE, the first of them with that sequence number. */
+/* The lines of `count` calls made now as a table, the first of them with that sequence number. */
 void line_table(struct line *lines, uint64_t sequence, const uint8_t *calls, const uint8_t *answers, size_t count);
 
+/* Whether a line names this entry; what it is by the entry that it names. */
+int line_names(const struct line *line, const struct entry *entry);
+enum line_kind line_kind(const struct line *line);
 int line_in_table(const struct line *line);
 
 /* The sequence numbers of a table's first and last call. */

@@ -53,7 +53,7 @@ static int judge_header(const char *name, enum store_use use, const uint8_t *hea
     static const char magic[16] = "SQLite format 3";
     if (has < 0)
         return report(name, "cannot be read: %s", strerror(errno));
-    if (length == CRZ_IMAGE_LENGTH || length == FILE_OLDER_IMAGE)
+    if (file_may_be_image((size_t)length))
         return report(name, "is no zone; if it is a raw image, 'crz import ZONE %s' makes a zone from it", name);
     if (has < HEADER || memcmp(header, magic, sizeof magic) != 0 || big_endian(header + 68) != JUDGE_APPLICATION)
         return report(name, "is no zone; name a file that 'crz new' or 'crz import' has made");

@@ -36,14 +36,14 @@ static int bad_line(struct replay *replay, uint64_t sequence, const char *what)
 /* Line 0: how the zone began. */
 static int replay_start(struct replay *replay, const struct line *line)
 {
-    replay->from_fresh = strcmp(line->entry, ENTRY_FRESH) == 0;
+    replay->from_fresh = line_names(line, &entry_fresh);
     if (line->call_length != 0 || line->answer_length != 0 || line->number != 0)
         return bad_line(replay, 0, "it is no start");
     if (replay->from_fresh && !line->has_further) {
         crz_fresh(replay->image, sizeof replay->image);
         return 0;
     }
-    if (strcmp(line->entry, ENTRY_IMPORT) != 0 || !line->has_further || line->further_length != CRZ_IMAGE_LENGTH)
+    if (!line_names(line, &entry_import) || !line->has_further || line->further_length != CRZ_IMAGE_LENGTH)
         return bad_line(replay, 0, "it is no start");
     memcpy(replay->image, line->further, CRZ_IMAGE_LENGTH);
     return image_valid(replay->image) ? 0 : bad_line(replay, 0, "the imported image is not valid");
@@ -129,7 +129,7 @@ static struct fault fault_in_commit(const struct line *lines, size_t place)
     const struct line *line = &lines[place];
     if (line->sequence != 0 && line_in_table(line))
         return fault_in_table(lines, place);
-    if (line->sequence != 0 && strcmp(line->entry, ENTRY_CALL) != 0)
+    if (line->sequence != 0 && line_kind(line) != LINE_CALL)
         return (struct fault){"it went through an entry that this program does not know", line->sequence};
     if (!line->has_image_hash)
         return (struct fault){"it has no hash of the image", line->sequence};

@@ -27,7 +27,7 @@ enum status zone_new(const char *path)
     return create(path, image, &start);
 }
 
-enum status zone_import(const char *path, const char *image_path, int *older)
+enum status zone_import(const char *path, const char *image_path, const struct layout **older)
 {
     uint8_t image[CRZ_IMAGE_LENGTH];
     struct line start;

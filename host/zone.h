@@ -2,6 +2,7 @@
 #ifndef ZONE_H
 #define ZONE_H
 
+#include "older.h"
 #include "report.h"
 #include "store.h"
 
@@ -25,9 +26,9 @@ struct expect {
     uint64_t sequence; /* the last line's */
 };
 
-/* A fresh zone in a new file; a zone that starts with a raw image, and whether that was an older program's. */
+/* A fresh zone in a new file; a zone that starts with a raw image, and the layout of that if it is an older one. */
 enum status zone_new(const char *path);
-enum status zone_import(const char *path, const char *image_path, int *older);
+enum status zone_import(const char *path, const char *image_path, const struct layout **older);
 
 /* The newest state, its hashes judged. Returns 0, or -1 after a message. */
 int zone_read(struct store *store, struct newest *newest);

@@ -86,6 +86,7 @@ extern "C" {
 
 /* ── What is returned ──────────────────────────────────────────────────────────────────────────── */
 
+/* Of a call the rows 1 to 13 are tested in this order, and its number is that of the first one that applies. */
 enum crz_number {
     CRZ_NUMBER_ACCEPTED = 0,
     CRZ_NUMBER_SHORT_ANSWER = 1,    /* answer buffer under 1,040 bytes, or figures under 768; nothing is written */
@@ -255,9 +256,9 @@ uint32_t crz_fresh(uint8_t *image, size_t image_len);
 
 /*
  * Makes a call on an image. Returns 0 and has then written the image after the call and the answer: its head, its
- * entries, and zeros behind them up to byte 1,040; or returns the lowest number that applies. A refusal leaves the
- * image as it was. 1 writes nothing at all; 2 to 13 put the number into byte 0 of the answer and zeros behind it up to
- * byte 1,040. Bytes of the answer past 1,040 keep their content in every case.
+ * entries, and zeros behind them up to byte 1,040; or returns the number of the first row of enum crz_number that
+ * applies. A refusal leaves the image as it was. 1 writes nothing at all; 2 to 13 put the number into byte 0 of the
+ * answer and zeros behind it up to byte 1,040. Bytes of the answer past 1,040 keep their content in every case.
  */
 uint32_t crz_call(uint8_t *image, size_t image_len, const uint8_t *call, size_t call_len, uint8_t *answer,
                   size_t answer_len);
