@@ -1,11 +1,10 @@
 /*
- * The library's entries, a line for each. crz.h has what they promise; whoever needs all of them by name takes them
- * from here: plain C (bench/plain.h), the bench, the host program's journal and, through tools/entries, the scripts.
- * Not installed: a host calls the entries by their names.
+ * The library's entries, a line for each. crz.h has what they promise; the host program's journal takes their names
+ * from here. Not installed: a host calls the entries by their names.
  *
  *   ENTRY(name, lines, buffers..)
  *
- *   name      what stands behind crz_, or behind plain_
+ *   name      what stands behind crz_
  *   lines     what its calls are in a journal (host/journal.h)
  *   buffers   what the host lends, in order: READ where the entry only reads it, else CHANGED
  *
