@@ -1,28 +1,54 @@
 // Yuan per tonne, fen and kilograms as types, the ranges of numbers, and the money of a trade.
 #![tactic(auto)]
 
-ghost use Rattle.std.specs.Prelude.{◌≡◌, ◌+◌, ◌≤◌, ◌<◌, ◌^◌, eqb};
+ghost use Rattle.std.specs.Prelude.{◌≡◌, ◌+◌, ◌-◌, ◌≤◌, ◌<◌, ◌^◌, eqb};
 ghost use Rattle.units.specs.Ranges.{is_zero, is_account, is_receipt, is_contract, is_days, is_price, is_ask, most_weight, is_basis, is_premium, is_weight, is_amount};
-ghost use Rattle.units.specs.Payments.{unit_price, at_least_0, payable, full_payment, first_payment, rest_payment, paid_so_far, part_payment, deposit, penalty_passed};
+ghost use Rattle.units.specs.Payments.{fen, unit_price, at_least_0, payable, full_payment, first_payment, rest_payment, paid_so_far, part_payment, deposit, penalty_passed};
+
+use std::ops::{Add, Sub};
 
 // A price: whole yuan per tonne.
-#[derive(Clone, Copy)]
+#[derive(Clone, Copy, PartialEq, Eq, PartialOrd, Ord)]
 pub struct YuanPerTonne(pub u32);
 
 // What a listing adds to the price of its reference contract: whole yuan per tonne, of either sign.
-#[derive(Clone, Copy)]
+#[derive(Clone, Copy, PartialEq, Eq, PartialOrd, Ord)]
 pub struct Basis(pub i32);
 
 // What a receipt adds to the price for the grade of its bales, in every sale: whole yuan per tonne, of either sign.
-#[derive(Clone, Copy)]
+#[derive(Clone, Copy, PartialEq, Eq, PartialOrd, Ord)]
 pub struct Premium(pub i32);
 
 // Money: whole fen.
-#[derive(Clone, Copy)]
+#[derive(Clone, Copy, PartialEq, Eq, PartialOrd, Ord)]
 pub struct Fen(pub u64);
 
+impl Add for Fen {
+    type Output = Fen;
+
+    ghost can_add = { λ a b. a.0 + b.0 < 2 ^ 64 };
+
+    ghost add_gives = { λ a b sum. sum ≡ fen (a.0 + b.0) };
+
+    fn add(self, more: Fen) -> Fen {
+        Fen(self.0 + more.0)
+    }
+}
+
+impl Sub for Fen {
+    type Output = Fen;
+
+    ghost can_sub = { λ a b. b.0 ≤ a.0 };
+
+    ghost sub_gives = { λ a b rest. rest ≡ fen (a.0 - b.0) };
+
+    fn sub(self, taken: Fen) -> Fen {
+        Fen(self.0 - taken.0)
+    }
+}
+
 // Weight.
-#[derive(Clone, Copy)]
+#[derive(Clone, Copy, PartialEq, Eq, PartialOrd, Ord)]
 pub struct Kilograms(pub u32);
 
 // ── Counts and limits ───────────────────────────────────────────────────────────────────────────

@@ -36,21 +36,21 @@ unfolding kind_of number_read
 is_kind n k e =
     by_kind {P = λ n. kind_of n ≡ Ok k → n ≡ kind_number k}
     (record {
-        pay_in = λ e. ap number_read e;
-        take_out = λ e. ap number_read e;
-        register = λ e. ap number_read e;
-        list = λ e. ap number_read e;
-        withdraw_listing = λ e. ap number_read e;
-        limit_bid = λ e. ap number_read e;
-        market_bid = λ e. ap number_read e;
-        withdraw_bid = λ e. ap number_read e;
-        quote = λ e. ap number_read e;
-        lodge = λ e. ap number_read e;
-        morning_close = λ e. ap number_read e;
-        first_payment = λ e. ap number_read e;
-        invoice = λ e. ap number_read e;
-        confirm = λ e. ap number_read e;
-        day_close = λ e. ap number_read e;
-        no_kind = λ n h e. let no : Err BadCall ≡ Ok k = sym (no_kind_of n h) ∙ e in cc;
-      })
+      pay_in = λ e. ap number_read e;
+      take_out = λ e. ap number_read e;
+      register = λ e. ap number_read e;
+      list = λ e. ap number_read e;
+      withdraw_listing = λ e. ap number_read e;
+      limit_bid = λ e. ap number_read e;
+      market_bid = λ e. ap number_read e;
+      withdraw_bid = λ e. ap number_read e;
+      quote = λ e. ap number_read e;
+      lodge = λ e. ap number_read e;
+      morning_close = λ e. ap number_read e;
+      first_payment = λ e. ap number_read e;
+      invoice = λ e. ap number_read e;
+      confirm = λ e. ap number_read e;
+      day_close = λ e. ap number_read e;
+      no_kind = λ n h e. let no : Err BadCall ≡ Ok k = sym (no_kind_of n h) ∙ e in cc;
+    })
     n e
