@@ -163,7 +163,7 @@ fn unit_price(price: YuanPerTonne, basis: Basis, premium: Premium) -> i64
 fn price_to_pay(price: YuanPerTonne, basis: Basis, premium: Premium) -> u64
     ensures { (result ≡ at_least_0 (unit_price price basis premium)) × (result < 2 ^ 33) }
 {
-    u64::try_from(unit_price(price, basis, premium)).unwrap_or(0)
+    unit_price(price, basis, premium).max(0).cast_unsigned()
 }
 
 // Whether a trade at this price has anything to pay: the sum is at least 1.
