@@ -8,7 +8,7 @@ use Rattle.zone.specs.Held.{full, held, fen_from, held_from}
 use Rattle.zone.specs.Record.{record_of}
 use Rattle.zone.specs.Valid.{fresh_zone}
 use Rattle.rules.specs.declared.Call.{Call}
-use Rattle.rules.specs.declared.Step.TheVariants.{Refused, Accepted}
+use Rattle.rules.specs.Steps.{Refused, Accepted}
 use Rattle.rules.specs.Effects.{register, list_for, withdraw_listing, limit_bid, market_bid, withdraw_bid, quote_lot, lodge, close_lot, pay_first, send_invoice, confirm, day_close_lot, no_rule, rule_of, opening, first_lot, lot_count, ending, effect}
 use Rattle.rules.specs.Events.{credit, debit, release, freeze, money_of, accounts_after, posted, sweep}
 use Rattle.rules.specs.Numbers.{ill_formed, out_of_range, wrong_phase, wrong_state, wrong_party, not_above, lacks_ask, not_payable, lacks_money, above_limit, above_invoice, first_number}

@@ -7,8 +7,9 @@ use Rattle.zone.specs.declared.Zone.{Zone}
 use Rattle.zone.specs.Record.{record_of}
 use Rattle.zone.specs.Valid.{record_valid}
 use Rattle.image.specs.Image.{Fits}
-use Rattle.rules.specs.declared.AtLot.{AtLot}
-use Rattle.rules.specs.declared.AtLot.TheVariants.{NoEvent, Event}
+use Rattle.rules.specs.AtLot.{AtLot}
+use Rattle.rules.specs.AtLot.{one_event}
+use Rattle.std.specs.Prelude.{Option, Some, None}
 use Rattle.rules.specs.declared.Entry.{Entry}
 use Rattle.rules.specs.Ready.{Funded}
 use Rattle.rules.specs.View.{record_of_receipt}
@@ -23,5 +24,5 @@ pub record Postable (z : Zone) (e : Entry) (r : Receipt) : Type 0 where
 
 -- an event at a lot, if there is one, can be posted
 abbrev pub CanPost : Zone → AtLot → Type 0
-CanPost z NoEvent = Unit {0}
-CanPost z (Event e r) = Postable z e r
+CanPost z None = Unit {0}
+CanPost z (one_event e r) = Postable z e r

@@ -6,8 +6,8 @@ use Rattle.rules.specs.declared.Call.{Call}
 use Rattle.rules.specs.declared.Entry.{Entry}
 use Rattle.rules.specs.Effects.{rule_at}
 use Rattle.rules.specs.Events.{Done, after_lot}
-use Rattle.lots.specs.declared.Noted.{Noted}
-use Rattle.lots.specs.declared.Noted.TheVariants.{One, Nothing}
+use Rattle.std.specs.Prelude.{Option}
+use Rattle.std.specs.Prelude.{Some, None}
 
 -- the entries of each case
 abbrev pub entries_of : Noted → List Entry

@@ -17,8 +17,9 @@ use Rattle.zone.specs.Held.{full}
 use Rattle.zone.specs.Parts.{with_accounts, with_asks, with_clock, with_total}
 use Rattle.zone.specs.Record.{listing_of, bid_of, trade_of, no_invoices}
 use Rattle.zone.specs.Valid.{no_asks}
-use Rattle.rules.specs.declared.AtLot.{AtLot}
-use Rattle.rules.specs.declared.AtLot.TheVariants.{NoEvent, Event}
+use Rattle.rules.specs.AtLot.{AtLot}
+use Rattle.rules.specs.AtLot.{one_event}
+use Rattle.std.specs.Prelude.{Option, Some, None}
 use Rattle.rules.specs.declared.Call.{Call}
 use Rattle.rules.specs.declared.Entry.{Entry}
 use Rattle.rules.specs.declared.View.{View}
@@ -46,7 +47,7 @@ with_lot f lot = owned_by f.owner f lot
 
 -- the event of lot n, of record f, that becomes `lot`, with an outcome and its number; the parties are the record's
 abbrev pub event_of : ℕ → Record → Lot → ℕ → ℕ → AtLot
-event_of n f lot outcome number = Event (entry_of n outcome f.seller f.buyer number) (with_lot f lot)
+event_of n f lot outcome number = one_event (entry_of n outcome f.seller f.buyer number) (with_lot f lot)
 
 -- ── Bids ───────────────────────────────────────────────────────────────────────────────────────
 
@@ -56,14 +57,14 @@ due_day v days = cond (v.afternoon && eqb days 0) (v.day + 1) (v.day + days)
 
 -- a bid on the listing of record f that stands, and one that is struck; the number is its price
 abbrev pub bid_stands : ℕ → Record → Bid → AtLot
-bid_stands n f b = Event (entry_of n 4 f.seller b.buyer b.price.0) (with_lot f (BidStands (listing_of f) b))
+bid_stands n f b = one_event (entry_of n 4 f.seller b.buyer b.price.0) (with_lot f (BidStands (listing_of f) b))
 
 -- the receipt with its lot struck by this bid, and its due day (01 Image 11, Calls 26)
 abbrev pub struck_receipt : View → Record → Bid → Receipt
 struck_receipt v f b = with_lot f (Struck (record { listing = listing_of f; bid = b; due = due_day v f.days }))
 
 abbrev pub bid_struck : View → ℕ → Record → Bid → AtLot
-bid_struck v n f b = Event (entry_of n 6 f.seller b.buyer b.price.0) (struck_receipt v f b)
+bid_struck v n f b = one_event (entry_of n 6 f.seller b.buyer b.price.0) (struck_receipt v f b)
 
 -- the lot's contract has an ask, and it is at or below the price (article 10)
 abbrev pub meets_ask : View → YuanPerTonne → Bool
@@ -74,13 +75,13 @@ meets_ask v price = not (eqb v.ask.0 0) && leb v.ask.0 price.0
 -- 3 register (01 Calls 5, 02 2/12): the caller owns a receipt of this weight and premium, with no lot
 unfoldable pub register : Call → ℕ → AtLot
 register c n =
-    Event (entry_of n 1 c.account 0 0)
+    one_event (entry_of n 1 c.account 0 0)
     (record { owner = c.account; weight = record { 0 = c.weight }; premium = record { 0 = c.basis }; lot = Idle })
 
 -- 4 list (01 Calls 6): the caller offers it at a contract, with its days and basis (article 6)
 unfoldable pub list_for : Call → ℕ → Record → AtLot
 list_for c n f =
-    Event (entry_of n 2 c.account 0 0)
+    one_event (entry_of n 2 c.account 0 0)
     (with_lot f (Listed (record { seller = c.account; contract = c.contract; days = c.days; basis = record { 0 = c.basis } })))
 
 -- a listing ends, and a bid on it with it: the lot is idle (01 Answers 6)
@@ -111,7 +112,7 @@ quote_meets v c f = eqb f.state 2 && eqb f.contract c.contract && meets_ask v f.
 
 -- it is struck at its own price
 unfoldable pub quote_lot : View → Call → ℕ → Record → AtLot
-quote_lot v c n f = cond (quote_meets v c f) (bid_struck v n f (bid_of f)) NoEvent
+quote_lot v c n f = cond (quote_meets v c f) (bid_struck v n f (bid_of f)) None
 
 -- 10 lodge (01 Calls 13; article 13)
 unfoldable pub lodge : ℕ → Record → AtLot
@@ -126,7 +127,7 @@ has_money v f = leb (full f).0 (v.free.buyer.0 + deposit.0)
 abbrev pub close_lodged : View → ℕ → Record → AtLot
 close_lodged v n f =
     let bought : Receipt = owned_by f.buyer f (Settled (trade_of f)) in
-    cond (has_money v f) (Event (entry_of n 8 f.seller f.buyer (full f).0) bought) (event_of n f Idle 12 deposit.0)
+    cond (has_money v f) (one_event (entry_of n 8 f.seller f.buyer (full f).0) bought) (event_of n f Idle 12 deposit.0)
 
 -- of a struck lot that was not lodged (01 Calls 18, 19): with the money the seller owes the penalty from tomorrow on, without it both have defaulted
 -- (article 20)
@@ -142,8 +143,8 @@ close_penalty v n f = event_of n f Idle 15 (penalty_passed v.free.seller).0
 unfoldable pub close_lot : View → ℕ → Record → AtLot
 close_lot v n f =
     cond (leb f.due v.day)
-    (row f.state NoEvent ((4 ∷ [], close_lodged v n f) ∷ (3 ∷ [], close_struck v n f) ∷ (7 ∷ [], close_penalty v n f) ∷ []))
-    NoEvent
+    (row f.state None ((4 ∷ [], close_lodged v n f) ∷ (3 ∷ [], close_struck v n f) ∷ (7 ∷ [], close_penalty v n f) ∷ []))
+    None
 
 -- 12 first payment (01 Calls 22); the number is the fen paid (article 16)
 unfoldable pub pay_first : ℕ → Record → AtLot
@@ -169,7 +170,7 @@ confirm n f =
 
 -- 15 day close (01 Calls 25): a listing ends, with or without a bid (article 12)
 unfoldable pub day_close_lot : ℕ → Record → AtLot
-day_close_lot n f = cond (among f.state (1 ∷ 2 ∷ [])) (listing_ended n f) NoEvent
+day_close_lot n f = cond (among f.state (1 ∷ 2 ∷ [])) (listing_ended n f) None
 
 -- what a kind does at lot n of record f, in view v
 abbrev pub Rule : Type 0
@@ -177,7 +178,7 @@ Rule = View → Call → ℕ → Record → AtLot
 
 -- of pay-ins and take-outs
 unfoldable pub no_rule : Rule
-no_rule v c n f = NoEvent
+no_rule v c n f = None
 
 -- by kind; kinds 1 and 2 have no entry (01 Answers 9)
 abbrev pub rule_table : List (List ℕ × Rule)

@@ -10,8 +10,9 @@ use Rattle.zone.specs.declared.Record.{Record}
 use Rattle.zone.specs.declared.Zone.{Zone}
 use Rattle.zone.specs.Held.{hold_of}
 use Rattle.zone.specs.Record.{record_of}
-use Rattle.rules.specs.declared.AtLot.{AtLot}
-use Rattle.rules.specs.declared.AtLot.TheVariants.{NoEvent, Event}
+use Rattle.rules.specs.AtLot.{AtLot}
+use Rattle.rules.specs.AtLot.{one_event}
+use Rattle.std.specs.Prelude.{Option, Some, None}
 use Rattle.rules.specs.declared.Entry.{Entry}
 use Rattle.rules.specs.Tables.{among, put}
 use Rattle.rules.specs.View.{free_of, frozen_of, record_of_receipt}
@@ -73,8 +74,8 @@ pub record Done : Type 0 where
 
 -- after what a rule does at one lot
 abbrev pub after_lot : Zone → AtLot → Done
-after_lot z NoEvent = record { zone = z; entries = [] }
-after_lot z (Event e r) = record { zone = posted z e r; entries = e ∷ [] }
+after_lot z None = record { zone = z; entries = [] }
+after_lot z (Some x) = record { zone = posted z x.entry x.receipt; entries = x.entry ∷ [] }
 
 -- a rule at `more` lots from number n on, each on the zone that the lots before it left
 unfoldable pub sweep : (Zone → ℕ → AtLot) → ℕ → ℕ → Zone → Done

@@ -1,3 +1,5 @@
+pub mod AtLot
+pub mod Kinds
 pub mod Tables
 pub mod View
 pub mod Numbers

@@ -1,15 +1,21 @@
 -- The outcome of a step: a call at the receipt that it names.
 -- Assumes nothing.
-use Rattle.std.specs.Prelude.{cond, ℕ, eqb}
+use Rattle.std.specs.Prelude.{cond, ℕ, eqb, Result, Ok, Err}
+use Rattle.rules.specs.declared.Refusal.{Refusal}
+use Rattle.rules.specs.Kinds.{refusal_number}
 use Rattle.zone.specs.declared.Record.{Record}
 use Rattle.zone.specs.declared.Zone.{Zone}
 use Rattle.rules.specs.declared.Call.{Call}
-use Rattle.rules.specs.declared.Step.{Step}
-use Rattle.rules.specs.declared.Step.TheVariants.{Refused, Accepted}
+use Rattle.rules.specs.AtLot.{AtLot}
 use Rattle.rules.specs.declared.View.{View}
 use Rattle.rules.specs.Effects.{rule_of}
 use Rattle.rules.specs.Numbers.{first_number}
 use Rattle.rules.specs.View.{view_of, record_of_receipt}
+
+-- a refusal with its number, or what the call does at its receipt
+pub data Step : Type 0 where
+  Refused : ℕ → Step
+  Accepted : AtLot → Step
 
 -- a refusal with its number, or what the call does at its receipt, of record f
 unfoldable pub step_at : View → Call → Record → Step
@@ -27,3 +33,8 @@ step_number (Accepted a) = 0
 -- the number of a call on a zone: 0 where none of 3 to 13 applies
 unfoldable pub number_on : Zone → Call → ℕ
 number_on z c = step_number (step_on z c)
+
+-- what the code returns for a step, as a step
+abbrev pub told : Result AtLot Refusal → Step
+told (Ok a) = Accepted a
+told (Err r) = Refused (refusal_number r)

@@ -3,105 +3,102 @@
 
 ghost use Rattle.std.specs.Prelude.{◌≡◌};
 ghost use Rattle.rules.specs.Effects.{owned_by, with_lot};
+ghost use Rattle.rules.specs.Kinds.{kind_of, outcome_number};
 
 use units::{Fen, YuanPerTonne};
 use zone::{Lot, Receipt, Record};
 
 // ── Kinds of calls ──────────────────────────────────────────────────────────────────────────────
 
-pub const KIND_PAY_IN: u8 = 1;
+// What a call asks for, by its number.
+#[derive(Clone, Copy, PartialEq, Eq)]
+pub enum Kind {
+    PayIn = 1,
+    TakeOut = 2,
+    Register = 3,
+    List = 4,
+    WithdrawListing = 5,
+    LimitBid = 6,
+    MarketBid = 7,
+    WithdrawBid = 8,
+    Quote = 9,
+    Lodge = 10,
+    MorningClose = 11,
+    FirstPayment = 12,
+    Invoice = 13,
+    Confirm = 14,
+    DayClose = 15,
+}
 
-pub const KIND_TAKE_OUT: u8 = 2;
+impl TryFrom<u8> for Kind {
+    type Error = Refusal;
 
-pub const KIND_REGISTER: u8 = 3;
+    ghost try_from_gives = { λ n r. r ≡ kind_of n };
 
-pub const KIND_LIST: u8 = 4;
-
-pub const KIND_WITHDRAW_LISTING: u8 = 5;
-
-pub const KIND_LIMIT_BID: u8 = 6;
-
-pub const KIND_MARKET_BID: u8 = 7;
-
-pub const KIND_WITHDRAW_BID: u8 = 8;
-
-pub const KIND_QUOTE: u8 = 9;
-
-pub const KIND_LODGE: u8 = 10;
-
-pub const KIND_MORNING_CLOSE: u8 = 11;
-
-pub const KIND_FIRST_PAYMENT: u8 = 12;
-
-pub const KIND_INVOICE: u8 = 13;
-
-pub const KIND_CONFIRM: u8 = 14;
-
-pub const KIND_DAY_CLOSE: u8 = 15;
+    fn try_from(number: u8) -> Result<Kind, Refusal> {
+        match number {
+            1 => Ok(Kind::PayIn),
+            2 => Ok(Kind::TakeOut),
+            3 => Ok(Kind::Register),
+            4 => Ok(Kind::List),
+            5 => Ok(Kind::WithdrawListing),
+            6 => Ok(Kind::LimitBid),
+            7 => Ok(Kind::MarketBid),
+            8 => Ok(Kind::WithdrawBid),
+            9 => Ok(Kind::Quote),
+            10 => Ok(Kind::Lodge),
+            11 => Ok(Kind::MorningClose),
+            12 => Ok(Kind::FirstPayment),
+            13 => Ok(Kind::Invoice),
+            14 => Ok(Kind::Confirm),
+            15 => Ok(Kind::DayClose),
+            _ => Err(Refusal::BadCall),
+        }
+    }
+}
 
 // ── Outcomes ────────────────────────────────────────────────────────────────────────────────────
 
-pub const OUTCOME_REGISTERED: u8 = 1;
+// What an entry tells of its lot, by its number.
+#[derive(Clone, Copy, PartialEq, Eq)]
+pub enum Outcome {
+    Registered = 1,
+    Listed = 2,
+    Ended = 3,
+    BidStands = 4,
+    BidWithdrawn = 5,
+    Struck = 6,
+    Lodged = 7,
+    Settled = 8,
+    FirstPaid = 9,
+    Invoiced = 10,
+    PartPaid = 11,
+    BuyerDefault = 12,
+    SellerDefault = 13,
+    BothDefaulted = 14,
+    Penalty = 15,
+}
 
-pub const OUTCOME_LISTED: u8 = 2;
+// ── Refusals ────────────────────────────────────────────────────────────────────────────────────
 
-pub const OUTCOME_ENDED: u8 = 3;
-
-pub const OUTCOME_BID_STANDS: u8 = 4;
-
-pub const OUTCOME_BID_WITHDRAWN: u8 = 5;
-
-pub const OUTCOME_STRUCK: u8 = 6;
-
-pub const OUTCOME_LODGED: u8 = 7;
-
-pub const OUTCOME_SETTLED: u8 = 8;
-
-pub const OUTCOME_FIRST_PAID: u8 = 9;
-
-pub const OUTCOME_INVOICED: u8 = 10;
-
-pub const OUTCOME_PART_PAID: u8 = 11;
-
-pub const OUTCOME_BUYER_DEFAULT: u8 = 12;
-
-pub const OUTCOME_SELLER_DEFAULT: u8 = 13;
-
-pub const OUTCOME_BOTH_DEFAULTED: u8 = 14;
-
-pub const OUTCOME_PENALTY: u8 = 15;
-
-// ── Numbers returned ────────────────────────────────────────────────────────────────────────────
-
-pub const NUMBER_ACCEPTED: u8 = 0;
-
-pub const NUMBER_SHORT_ANSWER: u8 = 1;
-
-pub const NUMBER_BAD_IMAGE: u8 = 2;
-
-pub const NUMBER_BAD_CALL: u8 = 3;
-
-pub const NUMBER_OUT_OF_RANGE: u8 = 4;
-
-pub const NUMBER_WRONG_PHASE: u8 = 5;
-
-pub const NUMBER_WRONG_STATE: u8 = 6;
-
-pub const NUMBER_WRONG_PARTY: u8 = 7;
-
-pub const NUMBER_NOT_ABOVE: u8 = 8;
-
-pub const NUMBER_NO_ASK: u8 = 9;
-
-pub const NUMBER_NOTHING_TO_PAY: u8 = 10;
-
-pub const NUMBER_NO_MONEY: u8 = 11;
-
-pub const NUMBER_OVER_LIMIT: u8 = 12;
-
-pub const NUMBER_OVER_INVOICE: u8 = 13;
-
-pub const NUMBER_BAD_TABLE: u8 = 14;
+// Why a call, a table or an image is refused, by the number that the entries return for it.
+#[derive(Clone, Copy, PartialEq, Eq)]
+pub enum Refusal {
+    ShortAnswer = 1,
+    BadImage = 2,
+    BadCall = 3,
+    OutOfRange = 4,
+    WrongPhase = 5,
+    WrongState = 6,
+    WrongParty = 7,
+    NotAbove = 8,
+    NoAsk = 9,
+    NothingToPay = 10,
+    NoMoney = 11,
+    OverLimit = 12,
+    OverInvoice = 13,
+    BadTable = 14,
+}
 
 // ── Values ──────────────────────────────────────────────────────────────────────────────────────
 
@@ -149,18 +146,11 @@ pub struct View {
     pub total: Fen,
 }
 
-// What a rule does at a lot: nothing, or an event, which is an entry and the receipt as it is after.
+// An event at a lot: its entry, and the receipt as it is after.
 #[derive(Clone, Copy)]
-pub enum AtLot {
-    NoEvent,
-    Event(Entry, Receipt),
-}
-
-// The outcome of a step: a refusal number, or what the call does at the receipt that it names.
-#[derive(Clone, Copy)]
-pub enum Step {
-    Refused(u8),
-    Accepted(AtLot),
+pub struct Event {
+    pub entry: Entry,
+    pub receipt: Receipt,
 }
 
 // ── Entries and receipts of an event ────────────────────────────────────────────────────────────
@@ -187,12 +177,12 @@ pub fn with_lot(f: Record, lot: Lot) -> Receipt
 }
 
 // From the buyer to the seller.
-pub fn by_buyer(n: u8, outcome: u8, f: Record, number: u32) -> Entry
-    ensures { result ≡ record { lot = n; outcome = outcome; from = f.buyer; to = f.seller; number = number } }
+pub fn by_buyer(n: u8, outcome: Outcome, f: Record, number: u32) -> Entry
+    ensures { result ≡ record { lot = n; outcome = outcome_number outcome; from = f.buyer; to = f.seller; number = number } }
 {
     Entry {
         lot: n,
-        outcome: outcome,
+        outcome: outcome as u8,
         from: f.buyer,
         to: f.seller,
         number: number,
@@ -200,12 +190,12 @@ pub fn by_buyer(n: u8, outcome: u8, f: Record, number: u32) -> Entry
 }
 
 // From the seller to the buyer.
-pub fn by_seller(n: u8, outcome: u8, f: Record, number: u32) -> Entry
-    ensures { result ≡ record { lot = n; outcome = outcome; from = f.seller; to = f.buyer; number = number } }
+pub fn by_seller(n: u8, outcome: Outcome, f: Record, number: u32) -> Entry
+    ensures { result ≡ record { lot = n; outcome = outcome_number outcome; from = f.seller; to = f.buyer; number = number } }
 {
     Entry {
         lot: n,
-        outcome: outcome,
+        outcome: outcome as u8,
         from: f.seller,
         to: f.buyer,
         number: number,
@@ -213,12 +203,12 @@ pub fn by_seller(n: u8, outcome: u8, f: Record, number: u32) -> Entry
 }
 
 // From the owner or seller, to nobody.
-pub fn by_owner(n: u8, outcome: u8, owner: u8) -> Entry
-    ensures { result ≡ record { lot = n; outcome = outcome; from = owner; to = 0; number = 0 } }
+pub fn by_owner(n: u8, outcome: Outcome, owner: u8) -> Entry
+    ensures { result ≡ record { lot = n; outcome = outcome_number outcome; from = owner; to = 0; number = 0 } }
 {
     Entry {
         lot: n,
-        outcome: outcome,
+        outcome: outcome as u8,
         from: owner,
         to: 0,
         number: 0,

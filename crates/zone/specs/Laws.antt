@@ -1,3 +1,4 @@
+pub mod States
 pub mod Tests
 pub mod Facts
 pub mod Lots

@@ -1,3 +1,4 @@
+pub mod State
 pub mod Record
 pub mod Held
 pub mod Valid

@@ -2,27 +2,49 @@
 #![tactic(auto)]
 
 ghost use Rattle.std.specs.Prelude.{◌≡◌};
+ghost use Rattle.zone.specs.State.{state_of};
 ghost use Rattle.zone.specs.Record.{record_of, flat_record, no_listing, no_bid, no_invoices, listing_of, bid_of, trade_of};
 
 use units::{ACCOUNTS, Basis, CONTRACTS, Fen, Kilograms, Premium, RECEIPTS, YuanPerTonne};
 
 // ── States ──────────────────────────────────────────────────────────────────────────────────────
 
-pub const STATE_IDLE: u8 = 0;
+// The state of a lot, by the number that its record has.
+#[derive(Clone, Copy, PartialEq, Eq)]
+pub enum State {
+    Idle = 0,
+    Listed = 1,
+    BidStands = 2,
+    Struck = 3,
+    Lodged = 4,
+    Settled = 5,
+    FirstPaid = 6,
+    PenaltyDue = 7,
+}
 
-pub const STATE_LISTED: u8 = 1;
+// A number that is no state's.
+#[derive(Clone, Copy, PartialEq, Eq)]
+pub struct UnknownState(pub u8);
 
-pub const STATE_BID_STANDS: u8 = 2;
+impl TryFrom<u8> for State {
+    type Error = UnknownState;
 
-pub const STATE_STRUCK: u8 = 3;
+    ghost try_from_gives = { λ n r. r ≡ state_of n };
 
-pub const STATE_LODGED: u8 = 4;
-
-pub const STATE_SETTLED: u8 = 5;
-
-pub const STATE_FIRST_PAID: u8 = 6;
-
-pub const STATE_PENALTY_DUE: u8 = 7;
+    fn try_from(number: u8) -> Result<State, UnknownState> {
+        match number {
+            0 => Ok(State::Idle),
+            1 => Ok(State::Listed),
+            2 => Ok(State::BidStands),
+            3 => Ok(State::Struck),
+            4 => Ok(State::Lodged),
+            5 => Ok(State::Settled),
+            6 => Ok(State::FirstPaid),
+            7 => Ok(State::PenaltyDue),
+            _ => Err(UnknownState(number)),
+        }
+    }
+}
 
 // ── Values ──────────────────────────────────────────────────────────────────────────────────────
 
@@ -230,7 +252,16 @@ fn penalty_record(
     let l = no_listing(seller);
     let b = no_bid(buyer);
     let none = no_invoices();
-    flat_record(owner, weight, premium, STATE_PENALTY_DUE, l, b, due, none)
+    flat_record(
+        owner,
+        weight,
+        premium,
+        State::PenaltyDue as u8,
+        l,
+        b,
+        due,
+        none,
+    )
 }
 
 pub fn record_of(r: Receipt) -> Record
@@ -242,13 +273,34 @@ pub fn record_of(r: Receipt) -> Record
     let lot = r.lot;
     let none = no_invoices();
     match lot {
-        Lot::Idle => untraded_record(owner, weight, premium, STATE_IDLE, no_listing(0), no_bid(0)),
-        Lot::Listed(l) => untraded_record(owner, weight, premium, STATE_LISTED, l, no_bid(0)),
-        Lot::BidStands(l, b) => untraded_record(owner, weight, premium, STATE_BID_STANDS, l, b),
-        Lot::Struck(t) => trade_record(owner, weight, premium, STATE_STRUCK, t, none),
-        Lot::Lodged(t) => trade_record(owner, weight, premium, STATE_LODGED, t, none),
-        Lot::Settled(t) => trade_record(owner, weight, premium, STATE_SETTLED, t, none),
-        Lot::FirstPaid(t, i) => trade_record(owner, weight, premium, STATE_FIRST_PAID, t, i),
+        Lot::Idle => untraded_record(
+            owner,
+            weight,
+            premium,
+            State::Idle as u8,
+            no_listing(0),
+            no_bid(0),
+        ),
+        Lot::Listed(l) => untraded_record(
+            owner,
+            weight,
+            premium,
+            State::Listed as u8,
+            l,
+            no_bid(0),
+        ),
+        Lot::BidStands(l, b) => untraded_record(
+            owner,
+            weight,
+            premium,
+            State::BidStands as u8,
+            l,
+            b,
+        ),
+        Lot::Struck(t) => trade_record(owner, weight, premium, State::Struck as u8, t, none),
+        Lot::Lodged(t) => trade_record(owner, weight, premium, State::Lodged as u8, t, none),
+        Lot::Settled(t) => trade_record(owner, weight, premium, State::Settled as u8, t, none),
+        Lot::FirstPaid(t, i) => trade_record(owner, weight, premium, State::FirstPaid as u8, t, i),
         Lot::PenaltyDue { seller, buyer, due } => {
             penalty_record(owner, weight, premium, seller, buyer, due)
         }

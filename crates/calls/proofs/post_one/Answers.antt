@@ -1,7 +1,7 @@
 use mathlib.Core.Path.{sym, subst, ap, ◌∙◌}
 use Rattle.image.specs.Image.{decode, encode}
 use Rattle.image.specs.Table.{table_bytes}
-use Rattle.rules.specs.declared.AtLot.{AtLot}
+use Rattle.rules.specs.AtLot.{AtLot}
 use Rattle.rules.specs.Events.{after_lot}
 use Rattle.answers.specs.Buffers.{listed}
 use Rattle.events.specs.Posting.{CanPost}

@@ -6,8 +6,9 @@ use Rattle.std.proofs.Math.Path.{refl}
 use Rattle.units.specs.Ranges.{is_receipt, receipt_count}
 use Rattle.zone.specs.declared.Zone.{Zone}
 use Rattle.zone.specs.Laws.Tests.{InRange, range_in}
-use Rattle.rules.specs.declared.AtLot.{AtLot}
-use Rattle.rules.specs.declared.AtLot.TheVariants.{NoEvent, Event}
+use Rattle.rules.specs.AtLot.{AtLot}
+use Rattle.rules.specs.AtLot.{one_event}
+use Rattle.std.specs.Prelude.{Option, Some, None}
 use Rattle.rules.specs.declared.Call.{Call}
 use Rattle.rules.specs.Effects.{rule_at, rule_of, no_rule, sweeps, opening, first_lot, lot_count, sweep_kinds}
 use Rattle.rules.specs.Events.{after_lot, sweep}
@@ -49,15 +50,15 @@ can_post {c} {z} G P h = go (rule_at c z c.receipt) refl
     R = range_in h
 
     go : (a : AtLot) → rule_at c z c.receipt ≡ a → CanPost z a
-    go NoEvent q = tt
-    go (Event e r) q = visit_posts G R.low R.high (named refl P) q
+    go None q = tt
+    go (one_event e r) q = visit_posts G R.low R.high (named refl P) q
 
 module _ (z : Zone) (G : Good z) (c : Call) where
   one_here : (b : Call) → opening b z ≡ z → lot_count b ≡ 1 → first_lot b ≡ b.receipt → PassedAt b z b.receipt
       → is_receipt b.receipt ≡ true → AtReceipt b z
   one_here b o l f P h = record { lots = rw (l, f, o) (one_lot (rule_at b) b.receipt z); posts = rw o (can_post G P h) }
 
-  none_here : (b : Call) → lot_count b ≡ 0 → rule_at b z b.receipt ≡ NoEvent → AtReceipt b z
+  none_here : (b : Call) → lot_count b ≡ 0 → rule_at b z b.receipt ≡ None → AtReceipt b z
   unfolding sweep
   none_here b l q = record { lots = rw (l, q); posts = rw q tt }
 

@@ -9,8 +9,9 @@ use native.Mathlib.Omega.{arith}
 use Rattle.std.proofs.lemmas.List.Edits.{sets}
 use Rattle.units.specs.Ranges.{receipt_count}
 use Rattle.zone.specs.declared.Zone.{Zone}
-use Rattle.rules.specs.declared.AtLot.{AtLot}
-use Rattle.rules.specs.declared.AtLot.TheVariants.{NoEvent, Event}
+use Rattle.rules.specs.AtLot.{AtLot}
+use Rattle.rules.specs.AtLot.{one_event}
+use Rattle.std.specs.Prelude.{Option, Some, None}
 use Rattle.rules.specs.declared.Call.{Call}
 use Rattle.rules.specs.declared.Entry.{Entry}
 use Rattle.rules.specs.Effects.{rule_at, sweeps}
@@ -21,8 +22,8 @@ use Rattle.rules.specs.Laws.Links.{after_good}
 use Rattle.image.specs.Table.{table_bytes}
 use Rattle.answers.specs.Buffers.{entry_place, entry_bytes, listed}
 use Rattle.answers.specs.Laws.Entries.{put_next}
-use Rattle.lots.specs.declared.Noted.{Noted}
-use Rattle.lots.specs.declared.Noted.TheVariants.{One, Nothing}
+use Rattle.std.specs.Prelude.{Option}
+use Rattle.std.specs.Prelude.{Some, None}
 use Rattle.lots.specs.Noted.{entries_of}
 
 -- the count and the answer that the code has after one step more
@@ -57,7 +58,7 @@ module _ (rule : Zone → ℕ → AtLot) where
       ∙ ap (listing (after_lot o.zone s).zone) (sym (append_assoc f.entries o.entries (after_lot o.zone s).entries))
 
   -- lots at which the rule has no event leave all as it was
-  pub sweep_past : (i r : ℕ) (z : Zone) → i ≤ r → ((j : ℕ) → i ≤ j → j < r → rule (sweep rule i 1 z).zone (j + 1) ≡ NoEvent) → sweep rule r 1 z ≡ sweep rule i 1 z
+  pub sweep_past : (i r : ℕ) (z : Zone) → i ≤ r → ((j : ℕ) → i ≤ j → j < r → rule (sweep rule i 1 z).zone (j + 1) ≡ None) → sweep rule r 1 z ≡ sweep rule i 1 z
   sweep_past i zero z h none = let e : 0 ≡ i = omega arith in ap (λ (k : ℕ). sweep rule k 1 z) e
   sweep_past i (suc r) z h none = go (ℕ_discrete i (suc r)) (λ p. sweep_past i r z p (λ j a b. none j a (omega arith)))
     where
@@ -72,8 +73,8 @@ module _ (rule : Zone → ℕ → AtLot) where
 
 -- at most one entry a lot
 few : (z : Zone) (s : AtLot) → length (after_lot z s).entries ≤ 1
-few z NoEvent = omega arith
-few z (Event e r) = omega arith
+few z None = omega arith
+few z (one_event e r) = omega arith
 
 pub sweep_few : (rule : Zone → ℕ → AtLot) (more n : ℕ) (z : Zone) → length (sweep rule more n z).entries ≤ more
 unfolding sweep

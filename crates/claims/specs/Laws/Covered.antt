@@ -19,8 +19,9 @@ use Rattle.zone.specs.Laws.Held.{fen_from_same, fen_from_other, fen_from_le}
 use Rattle.zone.specs.Laws.Tests.{both, InRange, range_in}
 use Rattle.zone.specs.Record.{record_of, trade_of}
 use Rattle.zone.specs.Valid.{no_receipt}
-use Rattle.rules.specs.declared.AtLot.{AtLot}
-use Rattle.rules.specs.declared.AtLot.TheVariants.{NoEvent, Event}
+use Rattle.rules.specs.AtLot.{AtLot}
+use Rattle.rules.specs.AtLot.{one_event}
+use Rattle.std.specs.Prelude.{Option, Some, None}
 use Rattle.rules.specs.declared.Call.{Call}
 use Rattle.rules.specs.declared.Entry.{Entry}
 use Rattle.rules.specs.Effects.{entry_of, owned_by, event_of, has_money, close_lot, rule_of, rule_at}
@@ -132,7 +133,7 @@ module _ (z : Zone) (c : Call) (n x : ℕ) (f : Record) (due : is_due z.day f �
   unfolding held_from held
   lodged_held s = rw s
 
-  settles : f.state ≡ 4 → On Takes (Event (entry_of n 8 f.seller f.buyer (full f).0) (owned_by f.buyer f (Settled (trade_of f))))
+  settles : f.state ≡ 4 → On Takes (one_event (entry_of n 8 f.seller f.buyer (full f).0) (owned_by f.buyer f (Settled (trade_of f))))
   unfolding money_of held_from held full record_of
   settles s =
       event (record {
@@ -238,8 +239,8 @@ module _ (x : ℕ) (px : 0 < x) where
         go : (s : AtLot) → rule_at c z n ≡ s
             → ((y : Zone) → Good y → owed_from y.day x more (suc n) y.receipts ≤ (free_of y.accounts x).0 → NoDefaultOf x (sweep (rule_at c) more (suc n) y).entries)
             → NoDefaultOf x ((after_lot z s).entries ++ (sweep (rule_at c) more (suc n) (after_lot z s).zone).entries)
-        go NoEvent q g = g z G (omega arith)
-        go (Event e r) q g =
+        go None q g = g z G (omega arith)
+        go (one_event e r) q g =
             let L : Linked c n z n e r = linked n e r a (omega arith) (omega arith) (close_visits c k z n) q G in
             let B : TakesAtMost z.day x (free_of z.accounts x).0 (record_of_receipt z n) e r = on_event (close_takes z c n x (record_of_receipt z n)) (sym (close_rule c k z n) ∙ q) in
             (B.no_default (omega arith), g (posted z e r) L.next (still_covered more L B h))
@@ -285,7 +286,7 @@ module _ (x n : ℕ) (f : Record) (A : Apart x f) where
   none_held = none_bought (held f).0
 
   -- whatever becomes of the lot, with the same parties or none
-  settles_kept : On (FreeKept x f) (Event (entry_of n 8 f.seller f.buyer (full f).0) (owned_by f.buyer f (Settled (trade_of f))))
+  settles_kept : On (FreeKept x f) (one_event (entry_of n 8 f.seller f.buyer (full f).0) (owned_by f.buyer f (Settled (trade_of f))))
   unfolding money_of held_from held full record_of
   settles_kept = event (record { kept = omega (arith, none_held, none_bought 0, none_sold 0, none_bought (full f).0) })
 
@@ -433,8 +434,8 @@ module _ (x k : ℕ) (px : 0 < x) where
         -- the lots behind, after what another lot has left
         go : n ≢ k → (s : AtLot) → rule_at c z n ≡ s → ((y : Zone) → Good y → Short (suc n) y → DefaultOf x k (sweep (rule_at c) more (suc n) y).entries)
             → DefaultOf x k ((after_lot z s).entries ++ (sweep (rule_at c) more (suc n) (after_lot z s).zone).entries)
-        go o NoEvent q g = g z G (passed_over S)
-        go o (Event e r) q g =
+        go o None q g = g z G (passed_over S)
+        go o (one_event e r) q g =
             let L : Linked c n z n e r = linked n e r a (omega arith) (omega arith) (close_visits c kind z n) q G in
             let E : FreeKept x (record_of_receipt z n) e r = on_event (close_free_kept z c n x (record_of_receipt z n) (S.others n (omega arith) (omega arith) o)) (sym (close_rule c kind z n) ∙ q) in
             later (g (posted z e r) L.next (still_short L o E S))

@@ -17,7 +17,7 @@ use Rattle.zone.specs.Laws.Back.{own_fields}
 use Rattle.zone.specs.Laws.Tests.{InRange, range_in}
 use Rattle.zone.specs.Laws.Valid.{fresh_valid}
 use Rattle.zone.specs.Valid.{no_receipt, fresh_zone}
-use Rattle.rules.specs.declared.AtLot.TheVariants.{Event}
+use Rattle.rules.specs.AtLot.{one_event}
 use Rattle.rules.specs.declared.Call.{Call}
 use Rattle.rules.specs.declared.Entry.{Entry}
 use Rattle.rules.specs.declared.View.{View}
@@ -60,7 +60,7 @@ abbrev CarriesAt : ℕ → Record → Entry → Receipt → Type 0
 CarriesAt k f e r = Carries k f r
 
 -- with another lot alone it keeps both
-kept : (k : ℕ) → k ≢ 3 → (f : Record) {e : Entry} {lot : Lot} → On (CarriesAt k f) (Event e (with_lot f lot))
+kept : (k : ℕ) → k ≢ 3 → (f : Record) {e : Entry} {lot : Lot} → On (CarriesAt k f) (one_event e (with_lot f lot))
 kept k n f = event (record { premium = λ _. refl; unowned = λ e. absurd (n e); owned = λ o. o })
 
 module _ (z : Zone) (G : Good z) (c : Call) (n : ℕ) where

@@ -10,8 +10,8 @@ use Rattle.std.proofs.Math.Seq.{drop-nil, drop-length, drop-append-add}
 use Rattle.zone.specs.declared.Zone.{Zone}
 use Rattle.rules.specs.declared.Call.{Call}
 use Rattle.rules.specs.declared.Entry.{Entry}
-use Rattle.rules.specs.declared.Step.{Step}
-use Rattle.rules.specs.declared.Step.TheVariants.{Refused, Accepted}
+use Rattle.rules.specs.Steps.{Step}
+use Rattle.rules.specs.Steps.{Refused, Accepted}
 use Rattle.rules.specs.Effects.{effect}
 use Rattle.rules.specs.Events.{Done}
 use Rattle.rules.specs.Steps.{step_on, step_number, number_on}

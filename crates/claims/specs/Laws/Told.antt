@@ -21,7 +21,7 @@ use Rattle.zone.specs.Laws.Facts.{owner_some}
 use Rattle.zone.specs.Laws.Tests.{both, InRange, range_in}
 use Rattle.zone.specs.Record.{record_of, bid_of, trade_of}
 use Rattle.zone.specs.Valid.{record_valid}
-use Rattle.rules.specs.declared.AtLot.TheVariants.{Event}
+use Rattle.rules.specs.AtLot.{one_event}
 use Rattle.rules.specs.declared.Call.{Call}
 use Rattle.rules.specs.declared.Entry.{Entry}
 use Rattle.rules.specs.declared.View.{View}
@@ -62,7 +62,7 @@ module _ (p : Past) where
 
 -- an event that is no strike
 quiet : {c : Call} {p : Past} {e : Entry} {r' : Receipt} → e.outcome ≢ 6 → KnowsAt (record_of r').state (record_of r') (with_entry c e p) →
-    Rest (record_of r').owner (with_entry c e p) → On (Told c p) (Event e r')
+    Rest (record_of r').owner (with_entry c e p) → On (Told c p) (one_event e r')
 quiet n k o = event (record { known = record { lot = k; rest = o }; fair = no_strike n })
 
 module _ (c : Call) (v : View) (p : Past) (n : ℕ) (f : Record) (K : Known f p) where
@@ -238,5 +238,5 @@ module _ (c : Call) (z : Zone) (p : Past) (n : ℕ) (ok : record_valid (record_o
         no_kind = λ k h t. absurd (true≢false (sym (visit_kind t) ∙ h));
       }
 
-  pub link_told : {e : Entry} {r' : Receipt} → Visit c z n → rule_at c z n ≡ Event e r' → Told c p e r'
+  pub link_told : {e : Entry} {r' : Receipt} → Visit c z n → rule_at c z n ≡ one_event e r' → Told c p e r'
   link_told t q = on_event (by_kind by_rule c.kind t) q

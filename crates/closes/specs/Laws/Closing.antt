@@ -21,8 +21,9 @@ use Rattle.zone.specs.Record.{record_of, receipt_of, trade_of}
 use Rattle.zone.specs.Valid.{record_valid}
 use Rattle.image.specs.Image.{decode, encode, Encoded, Fits}
 use Rattle.image.specs.Laws.RoundTrip.{decode_sized, valid_fits}
-use Rattle.rules.specs.declared.AtLot.{AtLot}
-use Rattle.rules.specs.declared.AtLot.TheVariants.{NoEvent, Event}
+use Rattle.rules.specs.AtLot.{AtLot}
+use Rattle.rules.specs.AtLot.{one_event}
+use Rattle.std.specs.Prelude.{Option, Some, None}
 use Rattle.rules.specs.declared.Call.{Call}
 use Rattle.rules.specs.declared.Entry.{Entry}
 use Rattle.rules.specs.Effects.{entry_of, owned_by, with_lot, has_money, close_lot, close_lodged, close_struck, close_penalty, day_close_lot, rule_of, rule_at, sweeps}
@@ -36,7 +37,7 @@ use Rattle.rules.specs.View.{free_of, view_of, record_of_receipt}
 use Rattle.events.specs.Laws.Moved.{Moved, ReceiptPut, record_put, record_valid_lem, encoded, released}
 use Rattle.events.specs.Laws.Nothing.{debit_nothing, credit_nothing, release_nothing, freeze_nothing}
 use Rattle.events.specs.Posting.{Postable}
-use Rattle.lots.specs.declared.Noted.TheVariants.{One, Nothing}
+use Rattle.std.specs.Prelude.{Some, None}
 use Rattle.lots.specs.Laws.Posts.{visit_posts}
 use Rattle.lots.specs.Laws.Visits.{good_decode, rule_by}
 use Rattle.lots.specs.Noted.{Worked}
@@ -46,7 +47,7 @@ use Rattle.closes.specs.Visited.{Visited, Due}
 
 -- the event of a close at a lot can be posted
 can_post : (c : Call) (n : ℕ) (s : List ℕ) {e : Entry} {r : Receipt} → Visited n s → sweeps c.kind ≡ true
-    → rule_at c (decode s) n ≡ Event e r → Postable (decode s) e r
+    → rule_at c (decode s) n ≡ one_event e r → Postable (decode s) e r
 can_post c n s at w q = visit_posts (good_decode s at.valid) at.low at.high (swept w) q
 
 -- what the morning close does at a lot that is due, by its state
@@ -75,24 +76,24 @@ module _ {c : Call} {n : ℕ} {s : List ℕ} {f : Record} (D : Due c n s f) wher
 
   -- the five events
   pub settles : f.state ≡ 4 → has_money (view_of (decode s) c.account f) f ≡ true
-      → rule_at c (decode s) n ≡ Event (entry_of n 8 f.seller f.buyer (full f).0) (owned_by f.buyer f (Settled (trade_of f)))
+      → rule_at c (decode s) n ≡ one_event (entry_of n 8 f.seller f.buyer (full f).0) (owned_by f.buyer f (Settled (trade_of f)))
   settles e h = lodged e ∙ rw h
 
   pub buyer_defaults : f.state ≡ 4 → has_money (view_of (decode s) c.account f) f ≡ false
-      → rule_at c (decode s) n ≡ Event (entry_of n 12 f.seller f.buyer deposit.0) (with_lot f Idle)
+      → rule_at c (decode s) n ≡ one_event (entry_of n 12 f.seller f.buyer deposit.0) (with_lot f Idle)
   buyer_defaults e h = lodged e ∙ rw h
 
   pub seller_defaults : f.state ≡ 3 → has_money (view_of (decode s) c.account f) f ≡ true
-      → rule_at c (decode s) n ≡ Event (entry_of n 13 f.seller f.buyer 0) (with_lot f (PenaltyDue f.seller f.buyer ((decode s).day + 1)))
+      → rule_at c (decode s) n ≡ one_event (entry_of n 13 f.seller f.buyer 0) (with_lot f (PenaltyDue f.seller f.buyer ((decode s).day + 1)))
   unfolding view_of
   seller_defaults e h = struck e ∙ rw h
 
   pub both_default : f.state ≡ 3 → has_money (view_of (decode s) c.account f) f ≡ false
-      → rule_at c (decode s) n ≡ Event (entry_of n 14 f.seller f.buyer 0) (with_lot f Idle)
+      → rule_at c (decode s) n ≡ one_event (entry_of n 14 f.seller f.buyer 0) (with_lot f Idle)
   both_default e h = struck e ∙ rw h
 
   pub pays_penalty : f.state ≡ 7 → rule_at c (decode s) n
-      ≡ Event (entry_of n 15 f.seller f.buyer (penalty_passed (free_of (decode s).accounts f.seller)).0) (with_lot f Idle)
+      ≡ one_event (entry_of n 15 f.seller f.buyer (penalty_passed (free_of (decode s).accounts f.seller)).0) (with_lot f Idle)
   unfolding view_of
   pays_penalty e = penalty e
 
@@ -105,22 +106,22 @@ module _ {c : Call} {n : ℕ} {s : List ℕ} {f : Record} (D : Due c n s f) wher
   buyer_limit = rw D.read (ready_at (decode s) (good_decode s D.at.valid) c n).buyer
 
   -- a lot in another state is no lot that the morning close works
-  pub no_close : (f.state ≡ 4 → ⊥) → (f.state ≡ 3 → ⊥) → (f.state ≡ 7 → ⊥) → rule_at c (decode s) n ≡ NoEvent
+  pub no_close : (f.state ≡ 4 → ⊥) → (f.state ≡ 3 → ⊥) → (f.state ≡ 7 → ⊥) → rule_at c (decode s) n ≡ None
   no_close a b d = by_close ∙ close_none (view_of (decode s) c.account f) n f (rw (ne_eqb f.state 3 b, ne_eqb f.state 4 a, ne_eqb f.state 7 d))
 
 -- nor is one that is not due
 pub not_due : (c : Call) (n : ℕ) (s : List ℕ) {f : Record} → c.kind ≡ 11 → f ≡ record_of_receipt (decode s) n → (decode s).day < f.due
-    → rule_at c (decode s) n ≡ NoEvent
+    → rule_at c (decode s) n ≡ None
 unfolding rule_of close_lot view_of
 not_due c n s {f} k i h = rule_by c (decode s) n 11 k ∙ rw (lt-leb (record_of_receipt (decode s) n).due (decode s).day (rw i at h))
 
 -- where the rule has no event, the image stays and nothing is listed
-pub idle_worked : (c : Call) (n : ℕ) (s : List ℕ) → Encoded s → rule_at c (decode s) n ≡ NoEvent → Worked c n s s Nothing
+pub idle_worked : (c : Call) (n : ℕ) (s : List ℕ) → Encoded s → rule_at c (decode s) n ≡ None → Worked c n s s Nothing
 idle_worked c n s e q =
     (e ∙ ap (λ (a : AtLot). encode (after_lot (decode s) a).zone) (sym q), ap (λ (a : AtLot). (after_lot (decode s) a).entries) (sym q))
 
 -- an event that is posted, and its entry
-pub worked : (c : Call) (n : ℕ) (s : List ℕ) {s' : List ℕ} {e e' : Entry} {r : Receipt} → rule_at c (decode s) n ≡ Event e r
+pub worked : (c : Call) (n : ℕ) (s : List ℕ) {s' : List ℕ} {e e' : Entry} {r : Receipt} → rule_at c (decode s) n ≡ one_event e r
     → s' ≡ encode (posted (decode s) e r) → e' ≡ e → Worked c n s s' (One e')
 worked c n s q is i =
     (is ∙ ap (λ (a : AtLot). encode (after_lot (decode s) a).zone) (sym q), ap (λ (x : Entry). x ∷ []) i ∙ ap (λ (a : AtLot). (after_lot (decode s) a).entries) (sym q))
@@ -277,11 +278,11 @@ module _ (c : Call) (n : ℕ) (s : List ℕ) {f : Record} (k : c.kind ≡ 15) (r
   by_day = rule_by c (decode s) n 15 k ∙ ap (day_close_lot n) (sym r)
 
   -- an offer ends, and nothing else
-  pub ends : (j : ℕ) → f.state ≡ j → among j (1 ∷ 2 ∷ []) ≡ true → rule_at c (decode s) n ≡ Event (entry_of n 3 f.seller f.buyer 0) (with_lot f Idle)
+  pub ends : (j : ℕ) → f.state ≡ j → among j (1 ∷ 2 ∷ []) ≡ true → rule_at c (decode s) n ≡ one_event (entry_of n 3 f.seller f.buyer 0) (with_lot f Idle)
   unfolding day_close_lot
   ends j e w = by_day ∙ rw (e, w)
 
-  pub no_offer : (f.state ≡ 1 → ⊥) → (f.state ≡ 2 → ⊥) → rule_at c (decode s) n ≡ NoEvent
+  pub no_offer : (f.state ≡ 1 → ⊥) → (f.state ≡ 2 → ⊥) → rule_at c (decode s) n ≡ None
   unfolding day_close_lot
   no_offer a b = by_day ∙ rw (ne_eqb _ 1 a, ne_eqb _ 2 b)
 

@@ -6,9 +6,9 @@ use Rattle.std.proofs.lemmas.Bool.{eqb-false}
 use Rattle.zone.specs.declared.Record.{Record}
 use Rattle.zone.specs.declared.Zone.{Zone}
 use Rattle.zone.specs.Laws.Tests.{both}
-use Rattle.rules.specs.declared.AtLot.{AtLot}
+use Rattle.rules.specs.AtLot.{AtLot}
 use Rattle.rules.specs.declared.Call.{Call}
-use Rattle.rules.specs.declared.Step.TheVariants.{Refused, Accepted}
+use Rattle.rules.specs.Steps.{Refused, Accepted}
 use Rattle.rules.specs.declared.View.{View}
 use Rattle.rules.specs.Numbers.{first_number, number_rows}
 use Rattle.rules.specs.Steps.{step_at, step_on, step_number, number_on}

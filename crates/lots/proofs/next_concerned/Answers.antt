@@ -7,7 +7,7 @@ use native.Mathlib.Omega.{arith}
 use Rattle.image.specs.Image.{decode}
 use Rattle.image.specs.Layout.{record_in, receipt_run}
 use Rattle.image.specs.Laws.RoundTrip.{same_long, valid_fits}
-use Rattle.rules.specs.declared.AtLot.TheVariants.{NoEvent}
+use Rattle.std.specs.Prelude.{Option, Some, None}
 use Rattle.rules.specs.Effects.{rule_at}
 use Rattle.rules.specs.View.{record_of_receipt}
 use Rattle.events.specs.Laws.Moved.{record_in_place}
@@ -25,7 +25,7 @@ one_more {P} {k} {i} before at j p q = go (ℕ_discrete i j)
     go (no n) = before j p (omega arith)
 
 -- a lot that the call does not concern has no event
-over : (c : Else-concerns) → rule_at c.args.c (decode c.args.image.now) (c.loop-i.i + 1) ≡ NoEvent
+over : (c : Else-concerns) → rule_at c.args.c (decode c.args.image.now) (c.loop-i.i + 1) ≡ None
 over c =
     let s = c.args.image.now in
     let call = c.args.c in

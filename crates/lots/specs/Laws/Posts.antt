@@ -9,7 +9,7 @@ use Rattle.image.specs.Image.{Fits}
 use Rattle.image.specs.Laws.RoundTrip.{valid_fits}
 use Rattle.rules.specs.declared.Call.{Call}
 use Rattle.rules.specs.declared.Entry.{Entry}
-use Rattle.rules.specs.declared.AtLot.TheVariants.{Event}
+use Rattle.rules.specs.AtLot.{one_event}
 use Rattle.rules.specs.Effects.{rule_at}
 use Rattle.rules.specs.Laws.Chain.{Visit}
 use Rattle.rules.specs.Laws.Fit.{fit_valid}
@@ -21,7 +21,7 @@ pub good_fits : (z : Zone) → Good z → Fits z
 good_fits z G = valid_fits z (valid_of_lem z G)
 
 pub visit_posts : {c : Call} {z : Zone} {n : ℕ} {e : Entry} {r : Receipt} → Good z → 0 < n → n ≤ receipt_count → Visit c z n
-    → rule_at c z n ≡ Event e r → Postable z e r
+    → rule_at c z n ≡ one_event e r → Postable z e r
 visit_posts {c} {z} {n} {e} {r} G a h v q =
     let L : Linked c 0 z n e r = linked n e r a zero-le h v q G in
     let k : e.lot ≡ n = L.fit.entry.lot in

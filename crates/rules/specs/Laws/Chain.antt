@@ -8,8 +8,9 @@ use Rattle.zone.specs.declared.Zone.{Zone}
 use Rattle.zone.specs.Laws.Tests.{InRange, range_in}
 use Rattle.rules.specs.declared.Call.{Call}
 use Rattle.rules.specs.declared.Entry.{Entry}
-use Rattle.rules.specs.declared.AtLot.{AtLot}
-use Rattle.rules.specs.declared.AtLot.TheVariants.{NoEvent, Event}
+use Rattle.rules.specs.AtLot.{AtLot}
+use Rattle.rules.specs.AtLot.{one_event}
+use Rattle.std.specs.Prelude.{Option, Some, None}
 use Rattle.rules.specs.Effects.{rule_at, opening, sweeps, first_lot, lot_count, ending, at_lots, effect}
 use Rattle.rules.specs.Events.{posted, after_lot, sweep}
 use Rattle.rules.specs.Laws.Kinds.{with_kind, ByKind, by_kind}
@@ -19,18 +20,18 @@ use Rattle.rules.specs.Steps.{number_on}
 -- ── A claim about the event at a lot ───────────────────────────────────────────────────────────
 
 abbrev pub OnOf : (Entry → Receipt → Type 0) → AtLot → Type 0
-OnOf P NoEvent = Unit {0}
-OnOf P (Event e r) = P e r
+OnOf P None = Unit {0}
+OnOf P (Some x) = P x.entry x.receipt
 
 -- P of the event at a lot, if there is one
 pub record On (P : Entry → Receipt → Type 0) (s : AtLot) : Type 0 where
   pub is : OnOf P s
 
 module _ {P : Entry → Receipt → Type 0} where
-  pub none : On P NoEvent
+  pub none : On P None
   none = record { is = tt }
 
-  pub event : {e : Entry} {r : Receipt} → P e r → On P (Event e r)
+  pub event : {e : Entry} {r : Receipt} → P e r → On P (one_event e r)
   event p = record { is = p }
 
   pub chosen : (b : Bool) (s t : AtLot) → (b ≡ true → On P s) → (b ≡ false → On P t) → On P (cond b s t)
@@ -38,10 +39,10 @@ module _ {P : Entry → Receipt → Type 0} where
   chosen false s t f g = g refl
 
   -- an event where the test passes, else none
-  pub only : (b : Bool) (s : AtLot) → (b ≡ true → On P s) → On P (cond b s NoEvent)
-  only b s f = chosen b s NoEvent f (λ _. none)
+  pub only : (b : Bool) (s : AtLot) → (b ≡ true → On P s) → On P (cond b s None)
+  only b s f = chosen b s None f (λ _. none)
 
-  pub on_event : {s : AtLot} {e : Entry} {r : Receipt} → On P s → s ≡ Event e r → P e r
+  pub on_event : {s : AtLot} {e : Entry} {r : Receipt} → On P s → s ≡ one_event e r → P e r
   on_event o q = (subst (On P) q o).is
 
 -- ── Events at ascending lots ───────────────────────────────────────────────────────────────────
@@ -55,7 +56,7 @@ pub data Visit (c : Call) (z : Zone) (n : ℕ) : Type 0 where
 pub data Chain (c : Call) : ℕ → Zone → List Entry → Zone → Type 0 where
   stop : {lo : ℕ} {z : Zone} → Chain c lo z [] z
   link : {lo : ℕ} {z : Zone} {es : List Entry} {last : Zone} (n : ℕ) (e : Entry) (r : Receipt) → 0 < n → lo ≤ n → n ≤ receipt_count
-      → Visit c z n → rule_at c z n ≡ Event e r → Chain c (suc n) (posted z e r) es last → Chain c lo z (e ∷ es) last
+      → Visit c z n → rule_at c z n ≡ one_event e r → Chain c (suc n) (posted z e r) es last → Chain c lo z (e ∷ es) last
 
 -- what a sweep of `more` lots from n on may assume: the lots are in range, and why the first and the others are visited
 pub record Path (c : Call) (z : Zone) (lo n more : ℕ) : Type 0 where
@@ -88,15 +89,15 @@ sweep_chain c (suc more) n lo z p =
         → Chain c lo' y (sweep (rule_at c) more (suc n) y).entries (sweep (rule_at c) more (suc n) y).zone)
         → Chain c lo z ((after_lot z s).entries ++ (sweep (rule_at c) more (suc n) (after_lot z s).zone).entries)
         (sweep (rule_at c) more (suc n) (after_lot z s).zone).zone
-    go NoEvent q g = g lo z (omega (arith, p.up (omega arith)))
-    go (Event e r) q g =
+    go None q g = g lo z (omega (arith, p.up (omega arith)))
+    go (Some x) q g =
         let h : n + suc more ≤ receipt_count + 1 = p.high (omega arith) in
-        link n e r (p.low (omega arith)) (p.up (omega arith)) (omega arith) (p.first (omega arith)) q
-        (g (suc n) (posted z e r) (omega arith))
+        link n x.entry x.receipt (p.low (omega arith)) (p.up (omega arith)) (omega arith) (p.first (omega arith)) q
+        (g (suc n) (posted z x.entry x.receipt) (omega arith))
 
 -- what holds of a zone and is kept by each event holds at the end
 pub walk : {c : Call} (I : Zone → Type 0)
-    → ((z : Zone) (n : ℕ) (e : Entry) (r : Receipt) → 0 < n → n ≤ receipt_count → Visit c z n → rule_at c z n ≡ Event e r → I z → I (posted z e r))
+    → ((z : Zone) (n : ℕ) (e : Entry) (r : Receipt) → 0 < n → n ≤ receipt_count → Visit c z n → rule_at c z n ≡ one_event e r → I z → I (posted z e r))
     → {lo : ℕ} {z : Zone} {es : List Entry} {last : Zone} → Chain c lo z es last → I z → I last
 walk I f stop i = i
 walk I f (link {z = z} n e r a b h v q t) i = walk I f t (f z n e r a h v q i)

@@ -13,8 +13,9 @@ use Rattle.zone.specs.Record.{record_of}
 use Rattle.zone.specs.Valid.{Sized, record_valid, no_receipt}
 use Rattle.rules.specs.declared.Call.{Call}
 use Rattle.rules.specs.declared.Entry.{Entry}
-use Rattle.rules.specs.declared.AtLot.{AtLot}
-use Rattle.rules.specs.declared.AtLot.TheVariants.{NoEvent, Event}
+use Rattle.rules.specs.AtLot.{AtLot}
+use Rattle.rules.specs.AtLot.{one_event}
+use Rattle.std.specs.Prelude.{Option, Some, None}
 use Rattle.rules.specs.Effects.{rule_of, rule_at, sweeps, no_rule, sweep_kinds}
 use Rattle.rules.specs.Events.{posted, after_lot}
 use Rattle.rules.specs.Laws.Chain.{none, on_event, Visit, swept, named, Chain, stop, link}
@@ -85,13 +86,13 @@ pub record Linked (c : Call) (lo : ℕ) (z : Zone) (n : ℕ) (e : Entry) (r : Re
   pub above : lo ≤ n
   pub high : n ≤ receipt_count
   pub visit : Visit c z n
-  pub rule : rule_at c z n ≡ Event e r
+  pub rule : rule_at c z n ≡ one_event e r
   pub good : Good z
   pub fit : Fit z.accounts n (record_of_receipt z n) e r
   pub next : Good (posted z e r)
 
 pub linked : {c : Call} {lo : ℕ} {z : Zone} (n : ℕ) (e : Entry) (r : Receipt) → 0 < n → lo ≤ n → n ≤ receipt_count → Visit c z n
-    → rule_at c z n ≡ Event e r → Good z → Linked c lo z n e r
+    → rule_at c z n ≡ one_event e r → Good z → Linked c lo z n e r
 linked {c} {lo} {z} n e r a b h v q G =
     let F : Fit z.accounts n (record_of_receipt z n) e r = on_event (fits z G c n v) q in
     record { low = a; above = b; high = h; visit = v; rule = q; good = G; fit = F; next = good_stays z n e r a h G F }
@@ -108,8 +109,8 @@ pub after_good : (z : Zone) → Good z → (c : Call) (n : ℕ) → 0 < n → n 
 after_good z G c n a h v = go (rule_at c z n) (fits z G c n v)
   where
     go : (s : AtLot) → FitsAt z n (record_of_receipt z n) s → Good (after_lot z s).zone
-    go NoEvent F = G
-    go (Event e r) F = good_stays z n e r a h G F.is
+    go None F = G
+    go (Some x) F = good_stays z n x.entry x.receipt a h G F.is
 
 -- the receipt of the event's lot after it, and any other
 pub receipt_at : (z : Zone) (e : Entry) (r : Receipt) → Sized z → 0 < e.lot → e.lot ≤ receipt_count → receipt_of_number (posted z e r).receipts e.lot ≡ r

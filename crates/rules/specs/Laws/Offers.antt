@@ -18,7 +18,7 @@ use Rattle.zone.specs.Laws.Tests.{both, InRange, range_in, price_at_most}
 use Rattle.zone.specs.Record.{record_of, listing_of, bid_of}
 use Rattle.zone.specs.Valid.{record_valid, ask_ok}
 use Rattle.rules.specs.declared.Call.{Call}
-use Rattle.rules.specs.declared.AtLot.{AtLot}
+use Rattle.rules.specs.AtLot.{AtLot}
 use Rattle.rules.specs.declared.View.{View}
 use Rattle.rules.specs.Effects.{event_of, due_day, meets_ask, bid_stands, bid_struck, register, list_for, withdraw_listing, limit_bid, market_bid, withdraw_bid, quote_lot, day_close_lot}
 use Rattle.rules.specs.Events.{money_of}

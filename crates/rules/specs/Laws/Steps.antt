@@ -4,9 +4,9 @@ use Rattle.std.specs.Prelude.{Bool, true, false, cond, ◌≡◌, refl, ℕ, eqb
 use Rattle.std.proofs.Common.{sym, ap, arith, eqb-true}
 use Rattle.zone.specs.declared.Record.{Record}
 use Rattle.zone.specs.declared.Zone.{Zone}
-use Rattle.rules.specs.declared.AtLot.{AtLot}
+use Rattle.rules.specs.AtLot.{AtLot}
 use Rattle.rules.specs.declared.Call.{Call}
-use Rattle.rules.specs.declared.Step.TheVariants.{Refused, Accepted}
+use Rattle.rules.specs.Steps.{Refused, Accepted}
 use Rattle.rules.specs.declared.View.{View}
 use Rattle.rules.specs.Effects.{rule_of, rule_at}
 use Rattle.rules.specs.Numbers.{first_number}

@@ -20,8 +20,9 @@ use Rattle.zone.specs.Laws.Tests.{both, InRange}
 use Rattle.zone.specs.Record.{record_of, trade_of}
 use Rattle.zone.specs.Valid.{record_valid}
 use Rattle.rules.specs.declared.Call.{Call}
-use Rattle.rules.specs.declared.AtLot.{AtLot}
-use Rattle.rules.specs.declared.AtLot.TheVariants.{NoEvent, Event}
+use Rattle.rules.specs.AtLot.{AtLot}
+use Rattle.rules.specs.AtLot.{one_event}
+use Rattle.std.specs.Prelude.{Option, Some, None}
 use Rattle.rules.specs.declared.View.{View}
 use Rattle.rules.specs.Effects.{with_lot, event_of, entry_of, has_money, lodge, close_lot, pay_first, send_invoice, confirm, owned_by}
 use Rattle.rules.specs.Events.{money_of}
@@ -37,15 +38,15 @@ use Rattle.rules.specs.Tables.{among}
 use Rattle.rules.specs.View.{free_of, view_of}
 
 -- of a lot in another state than these three the morning close makes no event, due or not
-pub close_none : (v : View) (n : ℕ) (f : Record) → among f.state (3 ∷ 4 ∷ 7 ∷ []) ≡ false → close_lot v n f ≡ NoEvent
+pub close_none : (v : View) (n : ℕ) (f : Record) → among f.state (3 ∷ 4 ∷ 7 ∷ []) ≡ false → close_lot v n f ≡ None
 unfolding close_lot
 close_none v n f h =
     let none = among_none f.state (3 ∷ 4 ∷ 7 ∷ []) h in
-    rw (none.1.0, none.0, none.1.1.0) (cond_same (leb f.due v.day) NoEvent)
+    rw (none.1.0, none.0, none.1.1.0) (cond_same (leb f.due v.day) None)
 
 -- a lot of state 4 whose buyer has the money
 abbrev close_settled : ℕ → Record → AtLot
-close_settled n f = Event (entry_of n 8 f.seller f.buyer (full f).0) (owned_by f.buyer f (Settled (trade_of f)))
+close_settled n f = one_event (entry_of n 8 f.seller f.buyer (full f).0) (owned_by f.buyer f (Settled (trade_of f)))
 
 -- what becomes of a lot whose invoice is confirmed below full
 abbrev going_on : Record → Lot

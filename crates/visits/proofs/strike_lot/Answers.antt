@@ -12,7 +12,7 @@ use Rattle.zone.specs.Parts.{with_receipts}
 use Rattle.zone.specs.Record.{record_of, receipt_of, bid_of}
 use Rattle.image.specs.Image.{decode, encode}
 use Rattle.image.specs.Laws.RoundTrip.{same_long, valid_fits}
-use Rattle.rules.specs.declared.AtLot.{AtLot}
+use Rattle.rules.specs.AtLot.{AtLot}
 use Rattle.rules.specs.Effects.{quote_meets, struck_receipt}
 use Rattle.rules.specs.Events.{after_lot}
 use Rattle.rules.specs.Laws.Ready.{ready_at}
@@ -20,7 +20,7 @@ use Rattle.rules.specs.Laws.Tables.{put_index}
 use Rattle.rules.specs.View.{view_of, record_of_receipt}
 use Rattle.events.specs.Laws.Moved.{record_in_place, record_valid_lem}
 use Rattle.lots.specs.Laws.Visits.{good_decode}
-use Rattle.lots.specs.declared.Noted.TheVariants.{One}
+use Rattle.std.specs.Prelude.{Some, None}
 use Rattle.visits.specs.Laws.Strikes.{not_met, met, money_stays}
 use Rattle.lots.specs.Noted.{entries_of}
 use Rattle.visits.proofs.strike_lot.Goals as goal

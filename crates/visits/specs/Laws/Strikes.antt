@@ -14,7 +14,8 @@ use Rattle.zone.specs.Held.{held, hold_of}
 use Rattle.zone.specs.Laws.Tests.{both}
 use Rattle.zone.specs.Parts.{with_receipts}
 use Rattle.zone.specs.Record.{record_of, bid_of}
-use Rattle.rules.specs.declared.AtLot.TheVariants.{NoEvent, Event}
+use Rattle.rules.specs.AtLot.{one_event}
+use Rattle.std.specs.Prelude.{Option, Some, None}
 use Rattle.rules.specs.declared.Call.{Call}
 use Rattle.rules.specs.declared.Entry.{Entry}
 use Rattle.rules.specs.declared.View.{View}
@@ -48,12 +49,12 @@ module _ (c : Call) (k : c.kind ≡ 9) (z : Zone) (n : ℕ) where
   unfolding rule_of
   by_quote = rule_by c z n 9 k
 
-  pub not_met : quote_meets v c f ≡ false → rule_at c z n ≡ NoEvent
+  pub not_met : quote_meets v c f ≡ false → rule_at c z n ≡ None
   unfolding quote_lot
   not_met h = by_quote ∙ rw h
 
   module _ (h : quote_meets v c f ≡ true) where
-    pub met : rule_at c z n ≡ Event e r
+    pub met : rule_at c z n ≡ one_event e r
     unfolding quote_lot
     met = by_quote ∙ rw h
 
