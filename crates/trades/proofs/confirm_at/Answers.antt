@@ -1,4 +1,5 @@
 -- A valid record in state 6 gives what `part_payment` asks and that the sums fit.
+-- `returns` is written out for the edits that bring a `part_payment` of their own: they are refused there, and not here too.
 use mathlib.Core.Path.{◌≡◌}
 use native.Mathlib.Omega.{arith}
 use Rattle.units.specs.Payments.{part_payment}
