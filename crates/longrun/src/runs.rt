@@ -1,5 +1,5 @@
 // A run: a zone from its fresh image on.
-use ledger_book::{DAY, IMAGE_LENGTH, PAGE_LENGTH, Page, ZONE, set_page_cell};
+use ledger_book::{DAY, IMAGE_LENGTH, PAGE_LENGTH, Page, ZONE};
 use longrun_calls::{Plan, sensible};
 use longrun_counts::{Tally, count_altered, count_call, count_fresh};
 use longrun_draws::{Request, below};
@@ -103,8 +103,8 @@ pub fn run(rt: &impl Print, plan: Plan, tally: &mut Tally) -> io::Result<()> {
     let mut image: Page = filled();
     let mut second: Page = filled();
     make_fresh(rt, IMAGE_LENGTH, &mut image, &mut second, tally)?;
-    set_page_cell(&mut image, DAY, ZONE, plan.day);
-    set_page_cell(&mut second, DAY, ZONE, plan.day);
+    image.set(DAY, ZONE, plan.day);
+    second.set(DAY, ZONE, plan.day);
     let mut seed = plan.seed;
     open(rt, &mut seed, plan, &mut image, &mut second, tally)?;
     make_calls(rt, &mut seed, plan, &mut image, &mut second, tally)

@@ -1,7 +1,7 @@
 // What a table of calls has reached.
 use ledger_book::{
     ANSWER_LENGTH, ANSWER_NUMBER_END, ANSWER_PHASE_END, Answers, ENTRY_COUNT_END, IMAGE_LENGTH,
-    MOST_CALLS, OUTCOME, RECEIPTS, answer_field, end_of, minus, plus, product, start_of,
+    MOST_CALLS, OUTCOME, RECEIPTS, place_of,
 };
 use longrun_counts::{
     ACCEPTED_BEHIND, CALL_TABLES, COUNTS_OF_REASON, COUNTS_OF_SIZE, TABLE_ANSWERS, TABLE_IMAGES,
@@ -35,10 +35,10 @@ fn count_size(t: CallTable, number: u64, bad_image: bool, tally: &mut Tally) {
         column = 2;
     }
     if bad_image {
-        column = plus(column, 1);
+        column = column.wrapping_add(1);
     }
-    let row = product(size_row(calls_in(t)), COUNTS_OF_SIZE);
-    add(tally, plus(TABLE_SIZES, plus(row, column)), 1);
+    let row = size_row(calls_in(t)).wrapping_mul(COUNTS_OF_SIZE);
+    add(tally, TABLE_SIZES.wrapping_add(row.wrapping_add(column)), 1);
 }
 
 // A table that was taken, on an image of which each call says that it is bad.
@@ -61,20 +61,24 @@ fn reason_row(found: u64) -> u64 {
 
 fn count_reason(t: CallTable, bad_image: bool, tally: &mut Tally) {
     let found = reasons(t);
-    let mut place = plus(TABLE_REASONS, product(reason_row(found), COUNTS_OF_REASON));
+    let mut place = TABLE_REASONS.wrapping_add(reason_row(found).wrapping_mul(COUNTS_OF_REASON));
     if bad_image {
-        place = plus(place, 1);
+        place = place.wrapping_add(1);
     }
     add(tally, place, 1);
     if found == RECORD_CUT_SHORT {
-        add(tally, plus(TABLE_RESTS, minus(rest_of(t), 1)), 1);
+        add(
+            tally,
+            TABLE_RESTS.wrapping_add(rest_of(t).wrapping_sub(1)),
+            1,
+        );
     }
 }
 
 // How the bytes for answers stand to those that the calls want.
 fn answers_class(given: u64, wanted: u64) -> u64 {
-    let spare = minus(given, wanted);
-    if plus(given, 1) < wanted {
+    let spare = given.wrapping_sub(wanted);
+    if given.wrapping_add(1) < wanted {
         return 0;
     }
     if given < wanted {
@@ -93,24 +97,27 @@ fn count_room(t: CallTable, tally: &mut Tally) {
     let found = reasons(t);
     let class = answers_class(t.answers_length, answers_wanted(calls_in(t)));
     if (calls_in(t) != 0) & ((found == 0) | (found == ANSWERS_TOO_SHORT)) {
-        add(tally, plus(TABLE_ANSWERS, class), 1);
+        add(tally, TABLE_ANSWERS.wrapping_add(class), 1);
     }
 }
 
 // ── Answers ─────────────────────────────────────────────────────────────────────────────────────
 
 fn number_at(answers: &Answers, k: u64) -> u64 {
-    answer_field(answers, k, 0, ANSWER_NUMBER_END)
+    answers.field(k, 0..ANSWER_NUMBER_END)
 }
 
 fn count_entry(answers: &Answers, k: u64, entry: u64, tally: &mut Tally) {
-    let start = start_of(OUTCOME, entry);
-    let outcome = answer_field(answers, k, start, end_of(OUTCOME, entry));
-    add(tally, plus(TABLE_OUTCOMES, minus(outcome, 1)), 1);
+    let outcome = answers.field(k, place_of(OUTCOME, entry));
+    add(
+        tally,
+        TABLE_OUTCOMES.wrapping_add(outcome.wrapping_sub(1)),
+        1,
+    );
 }
 
 fn count_entries(answers: &Answers, k: u64, tally: &mut Tally) {
-    let entries = answer_field(answers, k, ANSWER_PHASE_END, ENTRY_COUNT_END);
+    let entries = answers.field(k, ANSWER_PHASE_END..ENTRY_COUNT_END);
     for entry in 1..RECEIPTS + 1 {
         if entry <= entries {
             count_entry(answers, k, entry, tally);
@@ -120,7 +127,7 @@ fn count_entries(answers: &Answers, k: u64, tally: &mut Tally) {
 
 fn count_answers(calls: u64, answers: &Answers, tally: &mut Tally) {
     for k in 0..calls {
-        add(tally, plus(TABLE_NUMBERS, number_at(answers, k)), 1);
+        add(tally, TABLE_NUMBERS.wrapping_add(number_at(answers, k)), 1);
         count_entries(answers, k, tally);
     }
 }

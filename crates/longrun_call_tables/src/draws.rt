@@ -1,7 +1,6 @@
 // Tables with any number of calls, mostly taken; now and then one that must be refused, for one reason or for several.
 use ledger_book::{
-    ANSWER_LENGTH, ANSWERS_LENGTH, CALL_LENGTH, IMAGE_LENGTH, MOST_CALLS, Page, SPARE_CALLS, minus,
-    plus, product,
+    ANSWER_LENGTH, ANSWERS_LENGTH, CALL_LENGTH, IMAGE_LENGTH, MOST_CALLS, Page, SPARE_CALLS,
 };
 use longrun_calls::{Plan, opening_call, opening_calls, sensible};
 use longrun_draws::{CallTable, Request, answers_wanted, below, between, percent};
@@ -39,7 +38,7 @@ fn some_rest(seed: &mut u64) -> u64 {
 // One byte too few, or any number of bytes that is too small.
 fn too_short(seed: &mut u64, wanted: u64) -> u64 {
     if percent(seed, 50) {
-        return minus(wanted, 1);
+        return wanted.wrapping_sub(1);
     }
     below(seed, wanted)
 }
@@ -51,7 +50,7 @@ fn some_answers(seed: &mut u64, wanted: u64) -> u64 {
         return too_short(seed, wanted);
     }
     if draw < 35 {
-        return plus(wanted, below(seed, ANSWER_LENGTH as u64));
+        return wanted.wrapping_add(below(seed, ANSWER_LENGTH as u64));
     }
     if draw < 50 {
         return ANSWERS_LENGTH as u64;
@@ -71,7 +70,7 @@ fn some_image(seed: &mut u64) -> u64 {
 pub fn table_of(calls: u64) -> CallTable {
     CallTable {
         image_length: IMAGE_LENGTH as u64,
-        calls_length: product(calls, CALL),
+        calls_length: calls.wrapping_mul(CALL),
         answers_length: answers_wanted(calls),
     }
 }
@@ -80,7 +79,7 @@ pub fn some_table(seed: &mut u64) -> CallTable {
     let calls = some_calls(seed);
     CallTable {
         image_length: some_image(seed),
-        calls_length: plus(product(calls, CALL), some_rest(seed)),
+        calls_length: calls.wrapping_mul(CALL).wrapping_add(some_rest(seed)),
         answers_length: some_answers(seed, answers_wanted(calls)),
     }
 }

@@ -1,5 +1,5 @@
 // The rows about tables of calls, and what no table reached.
-use ledger_book::{MOST_CALLS, plus};
+use ledger_book::MOST_CALLS;
 use longrun_counts::{
     ACCEPTED_BEHIND, ANSWER_CLASSES, BAD_IMAGES, CALL_TABLES, CALL_TABLES_END, COUNTS_OF_REASON,
     COUNTS_OF_SIZE, NUMBERS, REASON_ROWS, RESTS, SIZE_ROWS, TABLE_ANSWERS, TABLE_IMAGES,
@@ -25,7 +25,7 @@ fn missed_edges(tally: &Tally) -> u64 {
     for place in CALL_TABLES..CALL_TABLES_END {
         let reached = counted(tally, place) != 0;
         if reached != may_be(place) {
-            missed = plus(missed, 1);
+            missed = missed.wrapping_add(1);
         }
     }
     missed

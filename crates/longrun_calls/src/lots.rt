@@ -1,7 +1,7 @@
 // Calls that take a lot a step on, chosen by its state.
 use ledger_book::{
-    ASK, BASIS, BUYER, CONFIRMED, CONTRACT, DEPOSIT, MOST_AMOUNT, OWNER, PENDING, PREMIUM, PRICE,
-    Page, SELLER, STATE, is_price, minus, page_cell, plus, signed,
+    ASK, BASIS, BUYER, CONFIRMED, CONTRACT, Cells, DEPOSIT, MOST_AMOUNT, OWNER, PENDING, PREMIUM,
+    PRICE, Page, SELLER, STATE, is_price, signed,
 };
 use longrun_draws::{
     Request, await_close, below, beside, between, full_of, meet_limit, near_price, party, percent,
@@ -19,13 +19,13 @@ fn register(seed: &mut u64, accounts: u64, lot: u64) -> Request {
 }
 
 fn premium_of(image: &Page, lot: u64) -> u64 {
-    signed(page_cell(image, PREMIUM, lot))
+    signed(image.cell(PREMIUM, lot)).cast_unsigned()
 }
 
 // Now and then a basis with which a tonne costs next to nothing at the contract's ask, or at a price that will be bid.
 fn listed_basis(seed: &mut u64, image: &Page, lot: u64, contract: u64) -> u64 {
     let premium = premium_of(image, lot);
-    let mut price = page_cell(image, ASK, contract);
+    let mut price = image.cell(ASK, contract);
     if percent(seed, 90) {
         return some_basis(seed, contract, premium);
     }
@@ -36,7 +36,7 @@ fn listed_basis(seed: &mut u64, image: &Page, lot: u64, contract: u64) -> u64 {
 }
 
 fn list(seed: &mut u64, accounts: u64, image: &Page, lot: u64) -> Request {
-    let owner = page_cell(image, OWNER, lot);
+    let owner = image.cell(OWNER, lot);
     let mut q = request_of(4, party(seed, accounts, owner), lot, 0);
     let contract = some_contract(seed, image);
     q.contract = contract;
@@ -47,7 +47,7 @@ fn list(seed: &mut u64, accounts: u64, image: &Page, lot: u64) -> Request {
 
 // An unregistered receipt is registered, another one listed; now and then the other way round.
 fn list_or_register(seed: &mut u64, accounts: u64, image: &Page, lot: u64) -> Request {
-    let unregistered = page_cell(image, OWNER, lot) == 0;
+    let unregistered = image.cell(OWNER, lot) == 0;
     if percent(seed, 4) != unregistered {
         return register(seed, accounts, lot);
     }
@@ -58,8 +58,8 @@ fn list_or_register(seed: &mut u64, accounts: u64, image: &Page, lot: u64) -> Re
 
 // Near the standing bid, or a price of the contract, or one at which a tonne costs next to nothing.
 fn bid_price(seed: &mut u64, image: &Page, lot: u64) -> u64 {
-    let standing = page_cell(image, PRICE, lot);
-    let basis = signed(page_cell(image, BASIS, lot));
+    let standing = image.cell(PRICE, lot);
+    let basis = signed(image.cell(BASIS, lot)).cast_unsigned();
     let least = to_nothing(seed, basis, premium_of(image, lot));
     if is_price(least) & percent(seed, 30) {
         return least;
@@ -67,7 +67,7 @@ fn bid_price(seed: &mut u64, image: &Page, lot: u64) -> u64 {
     if (standing != 0) & percent(seed, 70) {
         return price_beside(seed, standing);
     }
-    near_price(seed, page_cell(image, CONTRACT, lot))
+    near_price(seed, image.cell(CONTRACT, lot))
 }
 
 // The buyer whose bid stands, or any account.
@@ -80,7 +80,7 @@ fn bidder(seed: &mut u64, accounts: u64, buyer: u64) -> u64 {
 
 // A limit bid, or the money for one: now and then the bidder's free money comes to the deposit first, or one fen beside it.
 fn bid(seed: &mut u64, accounts: u64, image: &Page, lot: u64) -> Request {
-    let account = bidder(seed, accounts, page_cell(image, BUYER, lot));
+    let account = bidder(seed, accounts, image.cell(BUYER, lot));
     if percent(seed, 8) {
         return meet_limit(seed, image, account, DEPOSIT);
     }
@@ -88,8 +88,8 @@ fn bid(seed: &mut u64, accounts: u64, image: &Page, lot: u64) -> Request {
 }
 
 fn bid_or_withdraw(seed: &mut u64, accounts: u64, image: &Page, lot: u64) -> Request {
-    let buyer = page_cell(image, BUYER, lot);
-    let seller = page_cell(image, SELLER, lot);
+    let buyer = image.cell(BUYER, lot);
+    let seller = image.cell(SELLER, lot);
     let draw = below(seed, 100);
     if draw < 65 {
         return bid(seed, accounts, image, lot);
@@ -109,31 +109,25 @@ fn bid_or_withdraw(seed: &mut u64, accounts: u64, image: &Page, lot: u64) -> Req
 fn limit_at_close(image: &Page, lot: u64) -> u64 {
     let full = full_of(image, lot);
     if full > DEPOSIT {
-        return minus(full, DEPOSIT);
+        return full.wrapping_sub(DEPOSIT);
     }
     1
 }
 
 fn await_payment(seed: &mut u64, accounts: u64, image: &Page, lot: u64) -> Request {
-    let buyer = page_cell(image, BUYER, lot);
+    let buyer = image.cell(BUYER, lot);
     await_close(seed, accounts, image, buyer, limit_at_close(image, lot))
 }
 
 fn await_penalty(seed: &mut u64, accounts: u64, image: &Page, lot: u64) -> Request {
-    await_close(
-        seed,
-        accounts,
-        image,
-        page_cell(image, SELLER, lot),
-        DEPOSIT,
-    )
+    await_close(seed, accounts, image, image.cell(SELLER, lot), DEPOSIT)
 }
 
 // A struck lot is lodged, or waits unlodged for the close, which asks for the same money; or a bid comes too late.
 fn lodge_or_wait(seed: &mut u64, accounts: u64, image: &Page, lot: u64) -> Request {
     let draw = below(seed, 100);
     if draw < 40 {
-        let account = party(seed, accounts, page_cell(image, SELLER, lot));
+        let account = party(seed, accounts, image.cell(SELLER, lot));
         return request_of(10, account, lot, 0);
     }
     if draw < 70 {
@@ -151,29 +145,29 @@ fn invoice_amount(seed: &mut u64, left: u64) -> u64 {
         return left;
     }
     if draw < 40 {
-        return plus(left, between(seed, 1, 2));
+        return left.wrapping_add(between(seed, 1, 2));
     }
     if draw < 45 {
         return beside(seed, MOST_AMOUNT);
     }
     if draw < 50 {
-        return minus(left, 1);
+        return left.wrapping_sub(1);
     }
     if draw < 60 {
         return between(seed, 1, 3);
     }
-    between(seed, 1, plus(left, 1))
+    between(seed, 1, left.wrapping_add(1))
 }
 
 // What is pending is mostly confirmed, and where nothing is, an invoice comes.
 fn invoice_or_confirm(seed: &mut u64, accounts: u64, image: &Page, lot: u64) -> Request {
-    let pending = page_cell(image, PENDING, lot) != 0;
+    let pending = image.cell(PENDING, lot) != 0;
     if percent(seed, 4) != pending {
-        let buyer = party(seed, accounts, page_cell(image, BUYER, lot));
+        let buyer = party(seed, accounts, image.cell(BUYER, lot));
         return request_of(14, buyer, lot, 0);
     }
-    let left = minus(full_of(image, lot), page_cell(image, CONFIRMED, lot));
-    let seller = party(seed, accounts, page_cell(image, SELLER, lot));
+    let left = full_of(image, lot).wrapping_sub(image.cell(CONFIRMED, lot));
+    let seller = party(seed, accounts, image.cell(SELLER, lot));
     request_of(13, seller, lot, invoice_amount(seed, left))
 }
 
@@ -184,7 +178,7 @@ fn assumed_state(seed: &mut u64, image: &Page, lot: u64) -> u64 {
     if percent(seed, 5) {
         return below(seed, 8);
     }
-    page_cell(image, STATE, lot)
+    image.cell(STATE, lot)
 }
 
 // A call that takes the lot a step on, or moves the money that its next step asks for.
@@ -196,12 +190,7 @@ pub fn step_lot(seed: &mut u64, accounts: u64, image: &Page, lot: u64) -> Reques
         2 => bid_or_withdraw(seed, accounts, image, lot),
         3 => lodge_or_wait(seed, accounts, image, lot),
         4 => await_payment(seed, accounts, image, lot),
-        5 => request_of(
-            12,
-            party(seed, accounts, page_cell(image, SELLER, lot)),
-            lot,
-            0,
-        ),
+        5 => request_of(12, party(seed, accounts, image.cell(SELLER, lot)), lot, 0),
         6 => invoice_or_confirm(seed, accounts, image, lot),
         _ => await_penalty(seed, accounts, image, lot),
     }

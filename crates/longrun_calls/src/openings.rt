@@ -1,7 +1,6 @@
 // The calls that a run begins with, by their number.
 use ledger_book::{
-    ACCOUNTS, CONTRACTS, MOST_AMOUNT, MOST_PREMIUM, MOST_TOTAL, PRICE_STEP, RECEIPTS, minus, plus,
-    product,
+    ACCOUNTS, CONTRACTS, MOST_AMOUNT, MOST_PREMIUM, MOST_TOTAL, PRICE_STEP, RECEIPTS,
 };
 use longrun_draws::{Request, quote_of, request_of};
 
@@ -56,13 +55,13 @@ const ASKED: u64 = 15000;
 // With a premium that goes from one end of the range to the other in four steps, lot by lot.
 fn register(lot: u64) -> Request {
     let mut q = request_of(3, SELLER_OF_ALL, lot, 0);
-    q.basis = minus(product(lot % 5, MOST_PREMIUM / 2), MOST_PREMIUM);
-    q.weight = plus(40000, lot);
+    q.basis = ((lot % 5).wrapping_mul(MOST_PREMIUM / 2)).wrapping_sub(MOST_PREMIUM);
+    q.weight = lot.wrapping_add(40000);
     q
 }
 
 fn pay_in(account: u64) -> Request {
-    let amount = plus(2000000000, product(account, 400000000));
+    let amount = account.wrapping_mul(400000000).wrapping_add(2000000000);
     request_of(1, account, 0, amount)
 }
 
@@ -70,21 +69,21 @@ fn list(opening: u64, lot: u64) -> Request {
     let mut q = request_of(4, SELLER_OF_ALL, lot, 0);
     q.contract = 1;
     if opening == EACH_CONTRACT {
-        q.contract = plus(1, lot % CONTRACTS);
+        q.contract = (lot % CONTRACTS).wrapping_add(1);
     }
     q
 }
 
 // At the ask that will come, or up to two steps above it, by one of 22 buyers.
 fn bid(lot: u64) -> Request {
-    let buyer = plus(SELLER_OF_ALL + 1, lot % 22);
-    let price = plus(ASKED, product(PRICE_STEP, lot % 3));
+    let buyer = (SELLER_OF_ALL + 1).wrapping_add(lot % 22);
+    let price = ASKED.wrapping_add(PRICE_STEP.wrapping_mul(lot % 3));
     request_of(6, buyer, lot, price)
 }
 
 // The listing of a lot, then the bid on it.
 fn offer(opening: u64, k: u64) -> Request {
-    let lot = plus(1, k / 2);
+    let lot = (k / 2).wrapping_add(1);
     if k % 2 == 0 {
         return list(opening, lot);
     }
@@ -109,33 +108,33 @@ fn lodge(lot: u64) -> Request {
 
 fn first_day(opening: u64, k: u64) -> Request {
     if k < REGISTERED {
-        return register(plus(k, 1));
+        return register(k.wrapping_add(1));
     }
     if k < PAID_IN {
-        return pay_in(plus(minus(k, REGISTERED), 1));
+        return pay_in(k.wrapping_sub(REGISTERED).wrapping_add(1));
     }
     if k < OFFERED {
-        return offer(opening, minus(k, PAID_IN));
+        return offer(opening, k.wrapping_sub(PAID_IN));
     }
-    close(minus(k, OFFERED))
+    close(k.wrapping_sub(OFFERED))
 }
 
 fn second_day(opening: u64, k: u64) -> Request {
     if k < OFFERED_AGAIN {
-        return offer(opening, minus(k, DAY_OVER));
+        return offer(opening, k.wrapping_sub(DAY_OVER));
     }
     if k < QUOTED {
-        return quote_of(plus(minus(k, OFFERED_AGAIN), 1), ASKED);
+        return quote_of(k.wrapping_sub(OFFERED_AGAIN).wrapping_add(1), ASKED);
     }
     if k < LODGED {
-        return lodge(plus(minus(k, QUOTED), 1));
+        return lodge(k.wrapping_sub(QUOTED).wrapping_add(1));
     }
-    close(minus(k, LODGED))
+    close(k.wrapping_sub(LODGED))
 }
 
 pub fn opening_call(opening: u64, k: u64) -> Request {
     if opening == TO_LIMIT {
-        return request_of(1, plus(1, k % 6), 0, MOST_AMOUNT);
+        return request_of(1, (k % 6).wrapping_add(1), 0, MOST_AMOUNT);
     }
     if k < DAY_OVER {
         return first_day(opening, k);

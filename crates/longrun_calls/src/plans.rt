@@ -1,6 +1,6 @@
 // Sensible calls: chosen by what the image has, so that lots go through all states.
 use crate::lots::step_lot;
-use ledger_book::{PHASE, Page, ZONE, page_cell, plus};
+use ledger_book::{Cells, PHASE, Page, ZONE};
 use longrun_draws::{
     Request, below, between, near_price, pay_in, percent, quote_of, request_of, some_contract,
     take_out,
@@ -21,7 +21,7 @@ pub struct Plan {
 
 // The close that the phase asks for, now and then the other one.
 pub fn close_phase(seed: &mut u64, image: &Page) -> Request {
-    let morning = page_cell(image, PHASE, ZONE) == 0;
+    let morning = image.cell(PHASE, ZONE) == 0;
     if morning != percent(seed, 5) {
         return request_of(11, 0, 0, 0);
     }
@@ -50,7 +50,7 @@ pub fn sensible(seed: &mut u64, plan: Plan, image: &Page) -> Request {
     if draw < 130 {
         return take_out(seed, image, account);
     }
-    if draw < plus(130, plan.closes) {
+    if draw < plan.closes.wrapping_add(130) {
         return close_phase(seed, image);
     }
     step_lot(seed, plan.accounts, image, lot)

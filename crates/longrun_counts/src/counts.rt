@@ -9,8 +9,8 @@ use crate::tally::{
     VALID_IMAGES, add, counted, of_contract, of_outcome, pair, set,
 };
 use ledger_book::{
-    ANSWER_PHASE_END, CONTRACT, ENTRY_COUNT_END, LOT, MOST_PREMIUM, NUMBER, OUTCOME, PREMIUM, Page,
-    RECEIPTS, STATE, minus, page_cell, page_field, plus, signed,
+    ANSWER_PHASE_END, CONTRACT, Cells, ENTRY_COUNT_END, LOT, MOST_PREMIUM, NUMBER, OUTCOME,
+    PREMIUM, Page, RECEIPTS, STATE, signed,
 };
 use longrun_draws::Request;
 use std::io;
@@ -18,7 +18,7 @@ use std::io;
 // ── Entries ─────────────────────────────────────────────────────────────────────────────────────
 
 pub fn entries_in(answer: &Page) -> u64 {
-    page_field(answer, ANSWER_PHASE_END, ENTRY_COUNT_END)
+    answer.field(ANSWER_PHASE_END..ENTRY_COUNT_END)
 }
 
 // Which of the five classes a premium is of, from 1 on.
@@ -29,7 +29,7 @@ fn class_of(premium: u64) -> u64 {
     if premium == MOST_PREMIUM {
         return 5;
     }
-    if premium == minus(0, MOST_PREMIUM) {
+    if premium == MOST_PREMIUM.wrapping_neg() {
         return 1;
     }
     if premium < MOST_PREMIUM {
@@ -45,11 +45,11 @@ fn count_outcome(outcome: u64, class: u64, tally: &mut Tally) {
 
 // A part payment that leaves the receipt idle was the last one.
 fn count_entry(k: u64, image: &Page, answer: &Page, tally: &mut Tally) {
-    let outcome = page_cell(answer, OUTCOME, k);
-    let lot = page_cell(answer, LOT, k);
-    let class = class_of(signed(page_cell(image, PREMIUM, lot)));
+    let outcome = answer.cell(OUTCOME, k);
+    let lot = answer.cell(LOT, k);
+    let class = class_of(signed(image.cell(PREMIUM, lot)).cast_unsigned());
     count_outcome(outcome, class, tally);
-    if (outcome == 11) & (page_cell(image, STATE, lot) == 0) {
+    if (outcome == 11) & (image.cell(STATE, lot) == 0) {
         count_outcome(LAST_PAYMENT, class, tally);
     }
 }
@@ -73,9 +73,9 @@ fn strikes_at_one_price(answer: &Page) -> u64 {
     let entries = entries_in(answer);
     let mut equal: u64 = 0;
     for k in 2..RECEIPTS + 1 {
-        let same = page_cell(answer, NUMBER, k) == page_cell(answer, NUMBER, minus(k, 1));
+        let same = answer.cell(NUMBER, k) == answer.cell(NUMBER, k.wrapping_sub(1));
         if (k <= entries) & same {
-            equal = plus(equal, 1);
+            equal = equal.wrapping_add(1);
         }
     }
     equal
@@ -85,7 +85,7 @@ fn strikes_at_one_price(answer: &Page) -> u64 {
 fn count_several(contract: u64, answer: &Page, tally: &mut Tally) {
     let equal = strikes_at_one_price(answer);
     let one_price = equal != 0;
-    let different = plus(equal, 1) < entries_in(answer);
+    let different = equal.wrapping_add(1) < entries_in(answer);
     add(tally, of_contract(contract, SEVERAL_STRUCK), 1);
     if one_price {
         add(tally, of_contract(contract, AT_ONE_PRICE), 1);
@@ -118,8 +118,8 @@ fn count_bid(contract: u64, outcome: u64, tally: &mut Tally) {
 // An accepted call of a kind that has to do with a contract.
 fn count_contract(q: Request, image: &Page, answer: &Page, tally: &mut Tally) {
     let kind = q.kind;
-    let of_lot = page_cell(image, CONTRACT, q.receipt);
-    let outcome = page_cell(answer, OUTCOME, 1);
+    let of_lot = image.cell(CONTRACT, q.receipt);
+    let outcome = answer.cell(OUTCOME, 1);
     match kind {
         4 => add(tally, of_contract(q.contract, LISTED), 1),
         6 => count_bid(of_lot, outcome, tally),

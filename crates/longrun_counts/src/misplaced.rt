@@ -2,15 +2,15 @@
 use crate::limits::count_number;
 use crate::pages::same;
 use crate::tally::{LAST_LOT, Tally, of_held};
-use ledger_book::{BUYER, FROZEN, Page, RECEIPTS, STATE, minus, page_cell};
+use ledger_book::{BUYER, Cells, FROZEN, Page, RECEIPTS, STATE};
 use longrun_draws::{TO_ACCOUNT_BEFORE, TO_FREE, TO_SELLER, held_by, move_held};
 
 fn count_place(sound: &Page, altered: &Page, lot: u64, place: u64, number: u64, tally: &mut Tally) {
-    let state = page_cell(sound, STATE, lot);
+    let state = sound.cell(STATE, lot);
     let mut moved: Page = *sound;
     move_held(&mut moved, lot, place);
     if same(&moved, altered) {
-        count_number(tally, of_held(minus(state, 2), place), number, 2);
+        count_number(tally, of_held(state.wrapping_sub(2), place), number, 2);
         if lot == RECEIPTS {
             count_number(tally, of_held(LAST_LOT, place), number, 2);
         }
@@ -19,10 +19,10 @@ fn count_place(sound: &Page, altered: &Page, lot: u64, place: u64, number: u64, 
 
 // Two lots that hold the same sum from one account can both be the one.
 fn count_lot(sound: &Page, altered: &Page, lot: u64, number: u64, tally: &mut Tally) {
-    let buyer = page_cell(sound, BUYER, lot);
+    let buyer = sound.cell(BUYER, lot);
     let held = held_by(sound, lot);
-    let left = minus(page_cell(sound, FROZEN, buyer), held);
-    if (held != 0) & (page_cell(altered, FROZEN, buyer) == left) {
+    let left = sound.cell(FROZEN, buyer).wrapping_sub(held);
+    if (held != 0) & (altered.cell(FROZEN, buyer) == left) {
         count_place(sound, altered, lot, TO_SELLER, number, tally);
         count_place(sound, altered, lot, TO_ACCOUNT_BEFORE, number, tally);
         count_place(sound, altered, lot, TO_FREE, number, tally);

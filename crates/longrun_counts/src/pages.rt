@@ -1,10 +1,6 @@
 // Pages byte by byte.
-use ledger_book::{PAGE_LENGTH, Page};
+use ledger_book::Page;
 
 pub fn same(a: &Page, b: &Page) -> bool {
-    let mut same = true;
-    for k in 0..PAGE_LENGTH {
-        same = same & (a[k] == b[k]);
-    }
-    same
+    a == b
 }

@@ -5,8 +5,8 @@ use crate::tally::{
     PAID_NOTHING, PAID_OTHER, PAID_SHARE, PARTS, Tally, add,
 };
 use ledger_book::{
-    BUYER, CONFIRMED, FROZEN, NUMBER, PAID, PENDING, Page, RECEIPTS, STATE, TOTAL, ZONE, minus,
-    page_cell, paid_of_rest, plus, rest_payment, share, signed,
+    BUYER, CONFIRMED, Cells, FROZEN, NUMBER, PAID, PENDING, Page, RECEIPTS, STATE, TOTAL, ZONE,
+    paid_of_rest, signed,
 };
 use longrun_draws::{Request, full_of};
 
@@ -20,70 +20,70 @@ pub fn count_where(tally: &mut Tally, place: u64, is_so: bool) {
 
 // What an invoice of a trade paid, beside its own share of the rest.
 fn count_sum(tally: &mut Tally, place: u64, part: u64, own: u64) {
-    let more = minus(part, own);
-    count_where(tally, plus(place, PAID_NOTHING), part == 0);
-    count_where(tally, plus(place, PAID_SHARE), more == 0);
-    count_where(tally, plus(place, PAID_FEN_MORE), more == 1);
-    count_where(tally, plus(place, PAID_OTHER), more > 1);
+    let more = part.wrapping_sub(own);
+    count_where(tally, place.wrapping_add(PAID_NOTHING), part == 0);
+    count_where(tally, place.wrapping_add(PAID_SHARE), more == 0);
+    count_where(tally, place.wrapping_add(PAID_FEN_MORE), more == 1);
+    count_where(tally, place.wrapping_add(PAID_OTHER), more > 1);
 }
 
 // An accepted confirmation; `before` is the image that it found.
 pub fn count_part(q: Request, before: &Page, answer: &Page, tally: &mut Tally) {
     let lot = q.receipt % 256;
     let full = full_of(before, lot);
-    let confirmed = page_cell(before, CONFIRMED, lot);
-    let invoice = page_cell(before, PENDING, lot);
+    let confirmed = before.cell(CONFIRMED, lot);
+    let invoice = before.cell(PENDING, lot);
     let mut place = PARTS;
-    if plus(confirmed, invoice) == full {
+    if confirmed.wrapping_add(invoice) == full {
         place = PARTS + COUNTS_OF_PART;
     }
     add(tally, place, 1);
-    count_where(tally, plus(place, OF_ONE_FEN), invoice == 1);
-    count_where(tally, plus(place, AFTER_OTHERS), confirmed != 0);
-    let own = share(rest_payment(full), invoice, full);
-    count_sum(tally, place, page_cell(answer, NUMBER, 1), own);
+    count_where(tally, place.wrapping_add(OF_ONE_FEN), invoice == 1);
+    count_where(tally, place.wrapping_add(AFTER_OTHERS), confirmed != 0);
+    let own = paid_of_rest(full, invoice);
+    count_sum(tally, place, answer.cell(NUMBER, 1), own);
 }
 
 // ── Altered images ──────────────────────────────────────────────────────────────────────────────
 
 fn other_invoices(sound: &Page, altered: &Page, lot: u64) -> bool {
-    let pending = page_cell(sound, PENDING, lot) != page_cell(altered, PENDING, lot);
-    let confirmed = page_cell(sound, CONFIRMED, lot) != page_cell(altered, CONFIRMED, lot);
-    pending | confirmed | (page_cell(sound, PAID, lot) != page_cell(altered, PAID, lot))
+    let pending = sound.cell(PENDING, lot) != altered.cell(PENDING, lot);
+    let confirmed = sound.cell(CONFIRMED, lot) != altered.cell(CONFIRMED, lot);
+    pending | confirmed | (sound.cell(PAID, lot) != altered.cell(PAID, lot))
 }
 
 // A trade in both, at one price.
 fn is_trade(sound: &Page, altered: &Page, lot: u64) -> bool {
-    let in_parts = (page_cell(sound, STATE, lot) == 6) & (page_cell(altered, STATE, lot) == 6);
+    let in_parts = (sound.cell(STATE, lot) == 6) & (altered.cell(STATE, lot) == 6);
     in_parts & (full_of(sound, lot) == full_of(altered, lot))
 }
 
 // Invoices within the full payment: they do not decide.
 fn is_within_full(altered: &Page, lot: u64) -> bool {
     let full = full_of(altered, lot);
-    let confirmed = page_cell(altered, CONFIRMED, lot);
-    (confirmed < full) & (plus(confirmed, page_cell(altered, PENDING, lot)) <= full)
+    let confirmed = altered.cell(CONFIRMED, lot);
+    (confirmed < full) & (confirmed.wrapping_add(altered.cell(PENDING, lot)) <= full)
 }
 
 // Whether frozen money and total went down by as much as paid went up: then the sums fit, and do not decide.
 fn is_booked(sound: &Page, altered: &Page, lot: u64) -> bool {
-    let buyer = page_cell(altered, BUYER, lot);
-    let more = minus(page_cell(altered, PAID, lot), page_cell(sound, PAID, lot));
-    let frozen = plus(page_cell(altered, FROZEN, buyer), more);
-    let total = plus(page_cell(altered, TOTAL, ZONE), more);
-    (frozen == page_cell(sound, FROZEN, buyer)) & (total == page_cell(sound, TOTAL, ZONE))
+    let buyer = altered.cell(BUYER, lot);
+    let more = altered.cell(PAID, lot).wrapping_sub(sound.cell(PAID, lot));
+    let frozen = altered.cell(FROZEN, buyer).wrapping_add(more);
+    let total = altered.cell(TOTAL, ZONE).wrapping_add(more);
+    (frozen == sound.cell(FROZEN, buyer)) & (total == sound.cell(TOTAL, ZONE))
 }
 
 // How far what is paid lies from what it must be, modulo 2^32.
 fn count_paid(altered: &Page, lot: u64, number: u64, tally: &mut Tally) {
-    let confirmed = page_cell(altered, CONFIRMED, lot);
+    let confirmed = altered.cell(CONFIRMED, lot);
     let must_be = paid_of_rest(full_of(altered, lot), confirmed);
-    let bits = minus(page_cell(altered, PAID, lot), must_be) % 4294967296;
+    let bits = altered.cell(PAID, lot).wrapping_sub(must_be) % 4294967296;
     let mut limit = PAID_FOR_SOME;
     if confirmed == 0 {
         limit = PAID_FOR_NOTHING;
     }
-    count_limit(tally, limit, signed(bits), number, 2);
+    count_limit(tally, limit, signed(bits).cast_unsigned(), number, 2);
 }
 
 fn count_trade(sound: &Page, altered: &Page, lot: u64, number: u64, tally: &mut Tally) {

@@ -1,5 +1,5 @@
 // What all runs have reached, counted: one row of numbers, with these parts one behind another.
-use ledger_book::{CALL_LENGTH, CONTRACTS, LAST_KIND, LAST_NUMBER, LAST_OUTCOME, plus, product};
+use ledger_book::{CALL_LENGTH, CONTRACTS, LAST_KIND, LAST_NUMBER, LAST_OUTCOME};
 use longrun_draws::HELD_PLACES;
 
 // Calls by kind and number: a row for each kind, 0 among them, and one for all above the last.
@@ -229,29 +229,26 @@ pub fn empty_tally() -> Tally {
 // ── Where a count stands ────────────────────────────────────────────────────────────────────────
 
 pub fn pair(kind: u64, number: u64) -> u64 {
-    plus(PAIRS, plus(product(kind, NUMBERS), number))
+    PAIRS.wrapping_add(kind.wrapping_mul(NUMBERS).wrapping_add(number))
 }
 
 pub fn of_outcome(outcome: u64, what: u64) -> u64 {
-    plus(OUTCOMES, plus(product(outcome, COUNTS_OF_OUTCOME), what))
+    OUTCOMES.wrapping_add(outcome.wrapping_mul(COUNTS_OF_OUTCOME).wrapping_add(what))
 }
 
 pub fn of_contract(contract: u64, what: u64) -> u64 {
-    plus(
-        CONTRACT_COUNTS,
-        plus(product(contract, COUNTS_OF_CONTRACT), what),
-    )
+    CONTRACT_COUNTS.wrapping_add(contract.wrapping_mul(COUNTS_OF_CONTRACT).wrapping_add(what))
 }
 
 // The calls at a limit's `step`: 0 before it, 1 at it, 2 behind it. Those accepted and those refused come next.
 pub fn at_limit(limit: u64, step: u64) -> u64 {
-    plus(LIMITS, product(3, plus(product(3, limit), step)))
+    LIMITS.wrapping_add(limit.wrapping_mul(3).wrapping_add(step).wrapping_mul(3))
 }
 
 pub fn of_held(row: u64, place: u64) -> u64 {
-    plus(
-        HELD_SUMS,
-        plus(product(row, COUNTS_OF_HOLDER), product(3, place)),
+    HELD_SUMS.wrapping_add(
+        row.wrapping_mul(COUNTS_OF_HOLDER)
+            .wrapping_add(place.wrapping_mul(3)),
     )
 }
 
@@ -274,6 +271,6 @@ pub fn set(tally: &mut Tally, place: u64, value: u64) {
 }
 
 pub fn add(tally: &mut Tally, place: u64, more: u64) {
-    let value = plus(counted(tally, place), more);
+    let value = counted(tally, place).wrapping_add(more);
     set(tally, place, value);
 }

@@ -1,5 +1,5 @@
 // A table of calls to be made.
-use ledger_book::{ANSWER_LENGTH, CALL_LENGTH, MOST_CALLS, plus, product};
+use ledger_book::{ANSWER_LENGTH, CALL_LENGTH, MOST_CALLS};
 
 // How many bytes of each buffer it lends.
 #[derive(Clone, Copy)]
@@ -24,7 +24,7 @@ pub fn rest_of(t: CallTable) -> u64 {
 
 // Bytes that the answers to so many calls take.
 pub fn answers_wanted(calls: u64) -> u64 {
-    product(calls, ANSWER)
+    calls.wrapping_mul(ANSWER)
 }
 
 // Why a table is not taken, one or several of these added up (02 5/12).
@@ -38,13 +38,13 @@ pub const ANSWERS_TOO_SHORT: u64 = 4;
 pub fn reasons(t: CallTable) -> u64 {
     let mut found: u64 = 0;
     if calls_in(t) > MOST_CALLS {
-        found = plus(found, TOO_MANY_CALLS);
+        found = found.wrapping_add(TOO_MANY_CALLS);
     }
     if rest_of(t) != 0 {
-        found = plus(found, RECORD_CUT_SHORT);
+        found = found.wrapping_add(RECORD_CUT_SHORT);
     }
     if t.answers_length < answers_wanted(calls_in(t)) {
-        found = plus(found, ANSWERS_TOO_SHORT);
+        found = found.wrapping_add(ANSWERS_TOO_SHORT);
     }
     found
 }

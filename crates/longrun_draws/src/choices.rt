@@ -1,8 +1,8 @@
 // Parties, prices, premiums and weights, mostly such as carry a lot on, now and then at the end of a range or just beyond it.
 use crate::draws::{below, beside, between, percent};
 use ledger_book::{
-    CONTRACTS, DAY, LEAST_WEIGHT, MOST_BASIS, MOST_DAYS, MOST_PREMIUM, MOST_PRICE, MOST_WEIGHT,
-    PRICE_STEP, Page, ZONE, minus, page_cell, plus, product,
+    CONTRACTS, Cells, DAY, LEAST_WEIGHT, MOST_BASIS, MOST_DAYS, MOST_PREMIUM, MOST_PRICE,
+    MOST_WEIGHT, PRICE_STEP, Page, ZONE,
 };
 
 // Prices of the last contract are low, so that full payments lie below the deposit.
@@ -21,14 +21,14 @@ pub fn some_contract(seed: &mut u64, image: &Page) -> u64 {
     if percent(seed, 20) {
         return between(seed, 1, CONTRACTS);
     }
-    let day = page_cell(image, DAY, ZONE);
-    plus(1, plus(day, below(seed, 3)) % CONTRACTS)
+    let day = image.cell(DAY, ZONE);
+    (day.wrapping_add(below(seed, 3)) % CONTRACTS).wrapping_add(1)
 }
 
 // ── Prices ──────────────────────────────────────────────────────────────────────────────────────
 
 fn steps(n: u64) -> u64 {
-    product(PRICE_STEP, n)
+    PRICE_STEP.wrapping_mul(n)
 }
 
 // The ends of the range of prices, and one step beyond each.
@@ -37,7 +37,7 @@ pub fn price_edge(seed: &mut u64) -> u64 {
     if draw < 3 {
         return steps(draw);
     }
-    plus(MOST_PRICE - PRICE_STEP, steps(minus(draw, 3)))
+    (MOST_PRICE - PRICE_STEP).wrapping_add(steps(draw.wrapping_sub(3)))
 }
 
 // Prices of a contract lie near each other, so that bids meet asks.
@@ -48,12 +48,17 @@ pub fn near_price(seed: &mut u64, contract: u64) -> u64 {
     if contract == CHEAP_CONTRACT {
         return steps(between(seed, 1, 10));
     }
-    plus(plus(14000, product(contract, 500)), steps(below(seed, 20)))
+    contract
+        .wrapping_mul(500)
+        .wrapping_add(14000)
+        .wrapping_add(steps(below(seed, 20)))
 }
 
 // One step below the standing bid up to four above it.
 pub fn price_beside(seed: &mut u64, standing: u64) -> u64 {
-    minus(plus(standing, steps(below(seed, 6))), PRICE_STEP)
+    standing
+        .wrapping_add(steps(below(seed, 6)))
+        .wrapping_sub(PRICE_STEP)
 }
 
 // ── Basis and premium ───────────────────────────────────────────────────────────────────────────
@@ -62,7 +67,7 @@ pub fn price_beside(seed: &mut u64, standing: u64) -> u64 {
 pub fn some_premium(seed: &mut u64) -> u64 {
     let draw = below(seed, 100);
     if draw < 24 {
-        return beside(seed, minus(0, MOST_PREMIUM));
+        return beside(seed, MOST_PREMIUM.wrapping_neg());
     }
     if draw < 48 {
         return beside(seed, MOST_PREMIUM);
@@ -70,30 +75,30 @@ pub fn some_premium(seed: &mut u64) -> u64 {
     if draw < 60 {
         return 0;
     }
-    minus(below(seed, 2 * MOST_PREMIUM + 1), MOST_PREMIUM)
+    below(seed, 2 * MOST_PREMIUM + 1).wrapping_sub(MOST_PREMIUM)
 }
 
 // Price, basis or premium, where the other two are given: such that a tonne costs nothing, or one or two yuan.
 pub fn to_nothing(seed: &mut u64, one: u64, other: u64) -> u64 {
-    minus(below(seed, 3), plus(one, other))
+    below(seed, 3).wrapping_sub(one.wrapping_add(other))
 }
 
 // Now and then an end of the range or one beyond it, or far below 0. At low prices it makes up for the premium, which may be higher.
 pub fn some_basis(seed: &mut u64, contract: u64, premium: u64) -> u64 {
     let draw = below(seed, 100);
     if draw < 2 {
-        return plus(MOST_BASIS, draw);
+        return MOST_BASIS.wrapping_add(draw);
     }
     if draw < 4 {
-        return minus(2, plus(MOST_BASIS, draw));
+        return 2u64.wrapping_sub(MOST_BASIS.wrapping_add(draw));
     }
     if draw < 7 {
-        return minus(below(seed, MOST_BASIS), MOST_BASIS);
+        return below(seed, MOST_BASIS).wrapping_sub(MOST_BASIS);
     }
     if contract == CHEAP_CONTRACT {
-        return minus(below(seed, 80), plus(50, premium));
+        return below(seed, 80).wrapping_sub(premium.wrapping_add(50));
     }
-    minus(below(seed, 801), 400)
+    below(seed, 801).wrapping_sub(400)
 }
 
 // ── Days and weight ─────────────────────────────────────────────────────────────────────────────

@@ -1,5 +1,4 @@
 // Random numbers: xorshift with 64 bits. A seed means one run, on every machine.
-use ledger_book::{minus, plus};
 
 fn next(seed: &mut u64) -> u64 {
     let mut x = *seed;
@@ -13,7 +12,7 @@ fn next(seed: &mut u64) -> u64 {
 // Any 64 bits, put together from two steps.
 pub fn word(seed: &mut u64) -> u64 {
     let high = next(seed);
-    plus(high << 32, next(seed) >> 13)
+    (high << 32).wrapping_add(next(seed) >> 13)
 }
 
 // 0 to n - 1.
@@ -26,12 +25,12 @@ pub fn below(seed: &mut u64, n: u64) -> u64 {
 }
 
 pub fn between(seed: &mut u64, low: u64, high: u64) -> u64 {
-    plus(low, below(seed, minus(plus(high, 1), low)))
+    low.wrapping_add(below(seed, high.wrapping_add(1).wrapping_sub(low)))
 }
 
 // A limit, or the number before or after it.
 pub fn beside(seed: &mut u64, limit: u64) -> u64 {
-    minus(plus(limit, below(seed, 3)), 1)
+    limit.wrapping_add(below(seed, 3)).wrapping_sub(1)
 }
 
 pub fn percent(seed: &mut u64, n: u64) -> bool {

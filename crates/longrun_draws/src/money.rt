@@ -2,7 +2,7 @@
 use crate::choices::party;
 use crate::draws::{below, beside, between, percent};
 use crate::requests::{Request, request_of};
-use ledger_book::{FREE, MOST_AMOUNT, MOST_TOTAL, Page, TOTAL, ZONE, minus, page_cell, plus};
+use ledger_book::{Cells, FREE, MOST_AMOUNT, MOST_TOTAL, Page, TOTAL, ZONE};
 
 // Every third account is rich, the others often lack the full payment.
 fn usual_amount(seed: &mut u64, account: u64) -> u64 {
@@ -29,19 +29,19 @@ fn amount_to_limit(seed: &mut u64, room: u64) -> u64 {
 
 // A zone that holds more than half of what it may is mostly brought to the limit.
 pub fn pay_in(seed: &mut u64, image: &Page, account: u64) -> Request {
-    let total = page_cell(image, TOTAL, ZONE);
+    let total = image.cell(TOTAL, ZONE);
     let mut amount = usual_amount(seed, account);
     if (total > MOST_TOTAL / 2) & percent(seed, 70) {
-        amount = amount_to_limit(seed, minus(MOST_TOTAL, total));
+        amount = amount_to_limit(seed, MOST_TOTAL.wrapping_sub(total));
     }
     request_of(1, account, 0, amount)
 }
 
 // All of the free money, or a part of it, or up to two fen more.
 pub fn take_out(seed: &mut u64, image: &Page, account: u64) -> Request {
-    let mut amount = page_cell(image, FREE, account);
+    let mut amount = image.cell(FREE, account);
     if percent(seed, 50) {
-        amount = between(seed, 1, plus(amount, 2));
+        amount = between(seed, 1, amount.wrapping_add(2));
     }
     if (amount == 0) | (amount > MOST_AMOUNT) {
         amount = beside(seed, MOST_AMOUNT);
@@ -52,14 +52,14 @@ pub fn take_out(seed: &mut u64, image: &Page, account: u64) -> Request {
 // Brings the free money that a bid or a close tests to its limit, or one fen beside it, if one call can.
 pub fn meet_limit(seed: &mut u64, image: &Page, account: u64, limit: u64) -> Request {
     let wanted = beside(seed, limit);
-    let free = page_cell(image, FREE, account);
+    let free = image.cell(FREE, account);
     if free < wanted {
-        return request_of(1, account, 0, minus(wanted, free));
+        return request_of(1, account, 0, wanted.wrapping_sub(free));
     }
-    if minus(free, wanted) > MOST_AMOUNT {
+    if free.wrapping_sub(wanted) > MOST_AMOUNT {
         return pay_in(seed, image, account);
     }
-    request_of(2, account, 0, minus(free, wanted))
+    request_of(2, account, 0, free.wrapping_sub(wanted))
 }
 
 // Money for the next close, mostly as much as it tests.

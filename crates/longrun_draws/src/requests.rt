@@ -1,8 +1,5 @@
 // A call to be made.
-use ledger_book::{
-    ANSWER_LENGTH, BASIS, CALL_LENGTH, IMAGE_LENGTH, PREMIUM, PRICE, Page, WEIGHT, full_payment,
-    page_cell,
-};
+use ledger_book::{ANSWER_LENGTH, CALL_LENGTH, Cells, IMAGE_LENGTH, Page};
 
 // A call by its fields, with the lengths of the buffers that it lends. `basis` is a premium where a receipt is registered.
 #[derive(Clone, Copy)]
@@ -52,10 +49,5 @@ pub fn quote_of(contract: u64, ask: u64) -> Request {
 
 // The full payment of a lot, as the image has it.
 pub fn full_of(image: &Page, lot: u64) -> u64 {
-    full_payment(
-        page_cell(image, PRICE, lot),
-        page_cell(image, BASIS, lot),
-        page_cell(image, PREMIUM, lot),
-        page_cell(image, WEIGHT, lot),
-    )
+    image.full_payment(lot)
 }

@@ -2,7 +2,7 @@
 // must leave (02 5/12).
 #![tactic(auto)]
 
-use ledger_book::{Answers, MOST_CALLS, Page, empty_page, plus, product, put_answer, put_record};
+use ledger_book::{Answers, MOST_CALLS, Page};
 use longrun_call_tables::{call_in_table, count_table, some_table, table_of};
 use longrun_calls::{Plan, opening_calls};
 use longrun_counts::{Tally, Verdict, count_call, show};
@@ -53,8 +53,8 @@ fn make_alone(
     let mut answer: Page = filled();
     let record: Page = record_of(q);
     let v = drive(q, image, &mut second, &mut answer);
-    put_record(calls, k, &record);
-    put_answer(answers, k, &answer);
+    calls.put_record(k, &record);
+    answers.put(k, &answer);
     count_alone(rt, altered, q, v, &before, image, &answer, tally)
 }
 
@@ -72,7 +72,7 @@ fn make_each_alone(
     tally: &mut Tally,
 ) -> io::Result<()> {
     for k in 0..calls_in(t) {
-        let q = call_in_table(seed, plan, t, plus(first, k), image);
+        let q = call_in_table(seed, plan, t, first.wrapping_add(k), image);
         make_alone(rt, q, altered, k, image, calls, answers, tally)?;
     }
     Ok(())
@@ -127,7 +127,7 @@ fn make_table(
     tally: &mut Tally,
 ) -> io::Result<()> {
     let mut wanted: Page = *image;
-    let mut calls: Page = empty_page();
+    let mut calls: Page = Page::filled(0);
     let mut answers: Answers = filled_answers();
     make_each_alone(
         rt,
@@ -184,9 +184,9 @@ pub fn open(
     tally: &mut Tally,
 ) -> io::Result<()> {
     let t = table_of(MOST_CALLS);
-    let tables = plus(opening_calls(plan.opening), MOST_CALLS - 1) / MOST_CALLS;
+    let tables = opening_calls(plan.opening).wrapping_add(MOST_CALLS - 1) / MOST_CALLS;
     for k in 0..tables {
-        let first = product(k, MOST_CALLS);
+        let first = k.wrapping_mul(MOST_CALLS);
         make_table(rt, seed, plan, t, first, false, image, second, tally)?;
     }
     Ok(())

@@ -1,8 +1,8 @@
 // A figure paid in on a copy of the image, and the morning close behind it: its account has then defaulted as buyer nowhere. With a fen
 // less it has, where one trade is all that is due from it (02 6/12).
 use ledger_book::{
-    ACCOUNTS, BUYER, DAY, DUE, FROM, LOT, OUTCOME, Page, RECEIPTS, SELLER, SHORTFALL, STATE, ZONE,
-    minus, page_cell, plus,
+    ACCOUNTS, BUYER, Cells, DAY, DUE, FROM, LOT, OUTCOME, Page, RECEIPTS, SELLER, SHORTFALL, STATE,
+    ZONE,
 };
 use longrun_counts::{PAID_FIGURES, PAID_LESS, Tally, Verdict, add, entries_in, show};
 use longrun_draws::{Request, below, request_of};
@@ -49,8 +49,8 @@ fn pay_and_close(
 }
 
 fn is_default(answer: &Page, k: u64, account: u64) -> bool {
-    let outcome = page_cell(answer, OUTCOME, k);
-    ((outcome == 12) | (outcome == 14)) & (page_cell(answer, FROM, k) == account)
+    let outcome = answer.cell(OUTCOME, k);
+    ((outcome == 12) | (outcome == 14)) & (answer.cell(FROM, k) == account)
 }
 
 // The last lot with which the account has defaulted as buyer, 0 where there is none.
@@ -59,7 +59,7 @@ fn default_of(answer: &Page, account: u64) -> u64 {
     let mut found: u64 = 0;
     for k in 1..RECEIPTS + 1 {
         if (k <= entries) & is_default(answer, k, account) {
-            found = page_cell(answer, LOT, k);
+            found = answer.cell(LOT, k);
         }
     }
     found
@@ -102,7 +102,11 @@ fn pay_figure(
     let mut copy: Page = *image;
     let mut answer: Page = filled();
     if pay_and_close(rt, account, figure, &mut copy, &mut answer, tally)? {
-        add(tally, plus(PAID_FIGURES, class_of(owing, account)), 1);
+        add(
+            tally,
+            PAID_FIGURES.wrapping_add(class_of(owing, account)),
+            1,
+        );
         judge(rt, 0, default_of(&answer, account), account, tally)?;
     }
     Ok(())
@@ -112,10 +116,10 @@ fn pay_figure(
 
 // Whether the account is a party to the lot, and the close works it.
 fn has_part(image: &Page, lot: u64, account: u64) -> bool {
-    let due = page_cell(image, DUE, lot) <= page_cell(image, DAY, ZONE);
-    let penalty = page_cell(image, STATE, lot) == 7;
-    let buys = page_cell(image, BUYER, lot) == account;
-    let sells = page_cell(image, SELLER, lot) == account;
+    let due = image.cell(DUE, lot) <= image.cell(DAY, ZONE);
+    let penalty = image.cell(STATE, lot) == 7;
+    let buys = image.cell(BUYER, lot) == account;
+    let sells = image.cell(SELLER, lot) == account;
     due & (is_trade(image, lot) | penalty) & (buys | sells)
 }
 
@@ -125,11 +129,11 @@ fn only_trade(image: &Page, account: u64) -> u64 {
     let mut found: u64 = 0;
     for lot in 1..RECEIPTS + 1 {
         if has_part(image, lot, account) {
-            parts = plus(parts, 1);
+            parts = parts.wrapping_add(1);
             found = lot;
         }
     }
-    if (parts == 1) & is_trade(image, found) & (page_cell(image, BUYER, found) == account) {
+    if (parts == 1) & is_trade(image, found) & (image.cell(BUYER, found) == account) {
         return found;
     }
     0
@@ -148,9 +152,16 @@ fn pay_less(
     }
     let mut copy: Page = *image;
     let mut answer: Page = filled();
-    if pay_and_close(rt, account, minus(figure, 1), &mut copy, &mut answer, tally)? {
-        let state = page_cell(image, STATE, trade);
-        add(tally, plus(PAID_LESS, minus(state, 3)), 1);
+    if pay_and_close(
+        rt,
+        account,
+        figure.wrapping_sub(1),
+        &mut copy,
+        &mut answer,
+        tally,
+    )? {
+        let state = image.cell(STATE, trade);
+        add(tally, PAID_LESS.wrapping_add(state.wrapping_sub(3)), 1);
         judge(rt, trade, default_of(&answer, account), account, tally)?;
     }
     Ok(())
@@ -163,8 +174,8 @@ fn some_short(seed: &mut u64, figures: &Page) -> u64 {
     let first = below(seed, ACCOUNTS);
     let mut found: u64 = 0;
     for k in 0..ACCOUNTS {
-        let account = plus(1, plus(first, k) % ACCOUNTS);
-        if page_cell(figures, SHORTFALL, account) != 0 {
+        let account = (first.wrapping_add(k) % ACCOUNTS).wrapping_add(1);
+        if figures.cell(SHORTFALL, account) != 0 {
             found = account;
         }
     }
@@ -180,7 +191,7 @@ pub fn pay_some(
     tally: &mut Tally,
 ) -> io::Result<()> {
     let account = some_short(seed, figures);
-    let figure = page_cell(figures, SHORTFALL, account);
+    let figure = figures.cell(SHORTFALL, account);
     if account != 0 {
         pay_figure(rt, image, owing, account, figure, tally)?;
         pay_less(rt, image, account, figure, tally)?;

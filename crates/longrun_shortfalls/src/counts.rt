@@ -3,8 +3,7 @@ use crate::owing::{
     BELOW_DEPOSIT, FEN, LODGED, Owing, PENALTY, STRUCK, add_lot, class_of, figure_of, owing_of,
 };
 use ledger_book::{
-    ACCOUNTS, DAY, DUE, FIGURES_LENGTH, IMAGE_LENGTH, PHASE, Page, RECEIPTS, STATE, ZONE, minus,
-    page_cell, plus, product,
+    ACCOUNTS, Cells, DAY, DUE, FIGURES_LENGTH, IMAGE_LENGTH, PHASE, Page, RECEIPTS, STATE, ZONE,
 };
 use longrun_counts::{
     ASKED, ASKED_NUMBERS, CLOSE_LOTS, COUNTS_OF_CLOSE, FIGURES_ROOM, OWING, OWING_CLASSES,
@@ -24,7 +23,7 @@ fn room_class(room: u64) -> u64 {
         return 1;
     }
     if room <= FIGURES + 1 {
-        return minus(room, FIGURES - 3);
+        return room.wrapping_sub(FIGURES - 3);
     }
     5
 }
@@ -34,13 +33,13 @@ fn image_class(image: &Page, image_length: u64, bad: bool) -> u64 {
     if image_length != IMAGE_LENGTH as u64 {
         return 2;
     }
-    let afternoon = page_cell(image, PHASE, ZONE) != 0;
+    let afternoon = image.cell(PHASE, ZONE) != 0;
     let mut class: u64 = 0;
     if bad {
         class = 3;
     }
     if afternoon {
-        class = plus(class, 1);
+        class = class.wrapping_add(1);
     }
     class
 }
@@ -54,9 +53,9 @@ pub fn count_asking(
     number: u64,
     tally: &mut Tally,
 ) {
-    let row = product(image_class(image, image_length, bad), ASKED_NUMBERS);
-    add(tally, plus(ASKED, plus(row, number)), 1);
-    add(tally, plus(FIGURES_ROOM, room_class(room)), 1);
+    let row = image_class(image, image_length, bad).wrapping_mul(ASKED_NUMBERS);
+    add(tally, ASKED.wrapping_add(row.wrapping_add(number)), 1);
+    add(tally, FIGURES_ROOM.wrapping_add(room_class(room)), 1);
 }
 
 // ── Lots ────────────────────────────────────────────────────────────────────────────────────────
@@ -67,9 +66,9 @@ const MORNING_DUE_END: u64 = 2;
 const AFTERNOON: u64 = 4;
 
 fn due_column(image: &Page, lot: u64) -> u64 {
-    let day = page_cell(image, DAY, ZONE);
-    let due = page_cell(image, DUE, lot);
-    if page_cell(image, PHASE, ZONE) != 0 {
+    let day = image.cell(DAY, ZONE);
+    let due = image.cell(DUE, lot);
+    if image.cell(PHASE, ZONE) != 0 {
         if due <= day {
             return AFTERNOON;
         }
@@ -78,23 +77,23 @@ fn due_column(image: &Page, lot: u64) -> u64 {
     if due < day {
         return 0;
     }
-    if due > plus(day, 1) {
+    if due > day.wrapping_add(1) {
         return 3;
     }
-    plus(1, minus(due, day))
+    due.wrapping_sub(day).wrapping_add(1)
 }
 
 fn count_lot(image: &Page, lot: u64, what: u64, owing: &mut Owing, tally: &mut Tally) {
     let column = due_column(image, lot);
-    let row = product(what, COUNTS_OF_CLOSE);
-    add(tally, plus(CLOSE_LOTS, plus(row, column)), 1);
+    let row = what.wrapping_mul(COUNTS_OF_CLOSE);
+    add(tally, CLOSE_LOTS.wrapping_add(row.wrapping_add(column)), 1);
     if column < MORNING_DUE_END {
         add_lot(owing, image, lot, what);
     }
 }
 
 fn count_in_state(image: &Page, lot: u64, owing: &mut Owing, tally: &mut Tally) {
-    let state = page_cell(image, STATE, lot);
+    let state = image.cell(STATE, lot);
     match state {
         3 => count_lot(image, lot, STRUCK, owing, tally),
         4 => count_lot(image, lot, LODGED, owing, tally),
@@ -137,8 +136,8 @@ fn count_account(image: &Page, owing: &Owing, account: u64, tally: &mut Tally) {
     let class = class_of(owing, account);
     let row = owing_row(figure, owing_of(owing, account, FEN));
     if class < OWING_CLASSES {
-        let before = product(row, OWING_CLASSES);
-        add(tally, plus(OWING, plus(before, class)), 1);
+        let before = row.wrapping_mul(OWING_CLASSES);
+        add(tally, OWING.wrapping_add(before.wrapping_add(class)), 1);
     }
     count_figure(figure, owing, account, tally);
 }

@@ -1,9 +1,8 @@
 // Copies of a run's image in which more is due, or less money is there for it, and buffers of any length for the figures.
 use crate::owing::is_trade;
 use ledger_book::{
-    ACCOUNTS, BUYER, DAY, DEPOSIT, FIGURES_LENGTH, FREE, FROZEN, IMAGE_LENGTH, LAST_DAY, MOST_DAYS,
-    MOST_PRICE, PAGE_LENGTH, PHASE, PRICE, Page, RECEIPTS, SELLER, TOTAL, ZONE, minus, page_cell,
-    plus, set_page_cell, within,
+    ACCOUNTS, BUYER, Cells, DAY, DEPOSIT, FIGURES_LENGTH, FREE, FROZEN, IMAGE_LENGTH, LAST_DAY,
+    MOST_DAYS, MOST_PRICE, PAGE_LENGTH, PHASE, PRICE, Page, RECEIPTS, SELLER, TOTAL, ZONE,
 };
 use longrun_calls::Plan;
 use longrun_draws::{below, between, percent, raise_cell};
@@ -40,10 +39,10 @@ pub fn some_image_length(seed: &mut u64) -> u64 {
 
 // Another day, with the lots as they are: some have then been due for days, which no run of calls brings about.
 fn move_day(seed: &mut u64, image: &mut Page) {
-    let day_before = minus(page_cell(image, DAY, ZONE), 1);
-    let day = plus(day_before, below(seed, MOST_DAYS + 2));
-    if within(day, 1, LAST_DAY) {
-        set_page_cell(image, DAY, ZONE, day);
+    let day_before = image.cell(DAY, ZONE).wrapping_sub(1);
+    let day = day_before.wrapping_add(below(seed, MOST_DAYS + 2));
+    if (1..=LAST_DAY).contains(&day) {
+        image.set(DAY, ZONE, day);
     }
 }
 
@@ -52,10 +51,10 @@ const LITTLE: u64 = 70000000;
 
 fn leave_little(seed: &mut u64, image: &mut Page, account: u64) {
     let left = below(seed, LITTLE);
-    let taken = minus(page_cell(image, FREE, account), left);
-    if left < page_cell(image, FREE, account) {
-        raise_cell(image, FREE, account, minus(0, taken));
-        raise_cell(image, TOTAL, ZONE, minus(0, taken));
+    let taken = image.cell(FREE, account).wrapping_sub(left);
+    if left < image.cell(FREE, account) {
+        raise_cell(image, FREE, account, taken.wrapping_neg());
+        raise_cell(image, TOTAL, ZONE, taken.wrapping_neg());
     }
 }
 
@@ -67,12 +66,12 @@ fn take_money(seed: &mut u64, image: &mut Page) {
 
 // A trade goes to this buyer, at the highest price.
 fn give_trade(image: &mut Page, lot: u64, buyer: u64) {
-    let old = page_cell(image, BUYER, lot);
-    if is_trade(image, lot) & (page_cell(image, SELLER, lot) != buyer) {
-        raise_cell(image, FROZEN, old, minus(0, DEPOSIT));
+    let old = image.cell(BUYER, lot);
+    if is_trade(image, lot) & (image.cell(SELLER, lot) != buyer) {
+        raise_cell(image, FROZEN, old, DEPOSIT.wrapping_neg());
         raise_cell(image, FROZEN, buyer, DEPOSIT);
-        set_page_cell(image, BUYER, lot, buyer);
-        set_page_cell(image, PRICE, lot, MOST_PRICE);
+        image.set(BUYER, lot, buyer);
+        image.set(PRICE, lot, MOST_PRICE);
     }
 }
 
@@ -88,10 +87,10 @@ fn give_trades(seed: &mut u64, image: &mut Page, accounts: u64) {
 fn set_phase(seed: &mut u64, image: &mut Page) {
     let draw = below(seed, 100);
     if draw < 60 {
-        set_page_cell(image, PHASE, ZONE, 0);
+        image.set(PHASE, ZONE, 0);
     }
     if draw >= 90 {
-        set_page_cell(image, PHASE, ZONE, 1);
+        image.set(PHASE, ZONE, 1);
     }
 }
 

@@ -1,8 +1,5 @@
 // What the due lots of an image take from each account in a morning, added up lot by lot (02 6/12).
-use ledger_book::{
-    ACCOUNTS, BUYER, DEPOSIT, FREE, Page, SELLER, SHORTFALL, STATE, minus, page_cell, plus,
-    product, within,
-};
+use ledger_book::{ACCOUNTS, BUYER, Cells, DEPOSIT, FREE, Page, SELLER, SHORTFALL, STATE};
 use longrun_counts::OWING_CLASSES;
 use longrun_draws::full_of;
 
@@ -30,11 +27,11 @@ pub fn nothing_owing() -> Owing {
 
 // Struck or lodged.
 pub fn is_trade(image: &Page, lot: u64) -> bool {
-    within(page_cell(image, STATE, lot), 3, 4)
+    (3..=4).contains(&image.cell(STATE, lot))
 }
 
 pub fn owing_of(owing: &Owing, account: u64, sum: u64) -> u64 {
-    let at = plus(product(account, SUMS), sum) as usize;
+    let at = account.wrapping_mul(SUMS).wrapping_add(sum) as usize;
     if at < OWING_LENGTH {
         return owing[at];
     }
@@ -42,8 +39,8 @@ pub fn owing_of(owing: &Owing, account: u64, sum: u64) -> u64 {
 }
 
 fn add_owing(owing: &mut Owing, account: u64, sum: u64, by: u64) {
-    let at = plus(product(account, SUMS), sum) as usize;
-    let value = plus(owing_of(owing, account, sum), by);
+    let at = account.wrapping_mul(SUMS).wrapping_add(sum) as usize;
+    let value = owing_of(owing, account, sum).wrapping_add(by);
     if at < OWING_LENGTH {
         owing[at] = value;
     }
@@ -53,14 +50,14 @@ fn add_trade(owing: &mut Owing, buyer: u64, full: u64) {
     if full < DEPOSIT {
         add_owing(owing, buyer, BELOW_DEPOSIT, 1);
     } else {
-        add_owing(owing, buyer, FEN, minus(full, DEPOSIT));
+        add_owing(owing, buyer, FEN, full.wrapping_sub(DEPOSIT));
     }
 }
 
 // A due lot that is struck, lodged or has a penalty.
 pub fn add_lot(owing: &mut Owing, image: &Page, lot: u64, what: u64) {
-    let seller = page_cell(image, SELLER, lot);
-    let buyer = page_cell(image, BUYER, lot);
+    let seller = image.cell(SELLER, lot);
+    let buyer = image.cell(BUYER, lot);
     if what == PENALTY {
         add_owing(owing, seller, PENALTY, 1);
         add_owing(owing, seller, FEN, DEPOSIT);
@@ -73,9 +70,9 @@ pub fn add_lot(owing: &mut Owing, image: &Page, lot: u64, what: u64) {
 // The run's own figure: what is owing less the free money.
 pub fn figure_of(image: &Page, owing: &Owing, account: u64) -> u64 {
     let fen = owing_of(owing, account, FEN);
-    let free = page_cell(image, FREE, account);
+    let free = image.cell(FREE, account);
     if fen > free {
-        return minus(fen, free);
+        return fen.wrapping_sub(free);
     }
     0
 }
@@ -84,7 +81,7 @@ pub fn figure_of(image: &Page, owing: &Owing, account: u64) -> u64 {
 pub fn are_right(image: &Page, owing: &Owing, figures: &Page) -> bool {
     let mut right = true;
     for account in 1..ACCOUNTS + 1 {
-        let figure = page_cell(figures, SHORTFALL, account);
+        let figure = figures.cell(SHORTFALL, account);
         right = right & (figure == figure_of(image, owing, account));
     }
     right
@@ -105,13 +102,13 @@ pub const TRADES_AND_PENALTIES: u64 = 5;
 pub fn class_of(owing: &Owing, account: u64) -> u64 {
     let lodged = owing_of(owing, account, LODGED);
     let penalties = owing_of(owing, account, PENALTY);
-    let trades = plus(owing_of(owing, account, STRUCK), lodged);
-    let lots = plus(trades, penalties);
+    let trades = owing_of(owing, account, STRUCK).wrapping_add(lodged);
+    let lots = trades.wrapping_add(penalties);
     if lots == 0 {
         return OWING_CLASSES;
     }
     if lots == 1 {
-        return plus(lodged, product(ONE_PENALTY, penalties));
+        return lodged.wrapping_add(ONE_PENALTY.wrapping_mul(penalties));
     }
     if penalties == 0 {
         return SEVERAL_TRADES;

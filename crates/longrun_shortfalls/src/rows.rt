@@ -1,6 +1,5 @@
 // The rows about shortfalls, and what no asking reached.
 use crate::owing::{ONE_PENALTY, SEVERAL_PENALTIES, TRADES_AND_PENALTIES};
-use ledger_book::{minus, plus};
 use longrun_counts::{
     ASKED, ASKED_IMAGES, ASKED_NUMBERS, CLOSE_LOTS, CLOSE_ROWS, COUNTS_OF_CLOSE, FIGURES_ROOM,
     OWING, OWING_CLASSES, OWING_ROWS, PAID_FIGURES, PAID_LESS, PAID_LESS_STATES, ROOM_CLASSES,
@@ -23,7 +22,7 @@ const NOTHING_TAKEN: u64 = OWING + 2 * OWING_CLASSES;
 
 fn may_be(place: u64) -> bool {
     if place < FIGURES_ROOM {
-        return is_number(minus(place, ASKED));
+        return is_number(place.wrapping_sub(ASKED));
     }
     (place != NOTHING_TAKEN + ONE_PENALTY)
         & (place != NOTHING_TAKEN + SEVERAL_PENALTIES)
@@ -36,7 +35,7 @@ fn missed_edges(tally: &Tally) -> u64 {
     for place in ASKED..SHORTFALLS_END {
         let reached = counted(tally, place) != 0;
         if reached != may_be(place) {
-            missed = plus(missed, 1);
+            missed = missed.wrapping_add(1);
         }
     }
     missed

@@ -1,7 +1,7 @@
 // One table of calls on both sides (02 5/12).
 use crate::buffers::{filled_answers, same_answers};
 use crate::compare::{LEDGER_TABLE, LIBRARY_TABLE, lend};
-use ledger_book::{Answers, BAD_TABLE, Page, TOTAL, ZONE, page_cell};
+use ledger_book::{Answers, BAD_TABLE, Cells, Page, TOTAL, ZONE};
 use longrun_counts::{Verdict, same};
 use longrun_draws::{CallTable, reasons};
 
@@ -14,11 +14,11 @@ fn lend_table(
 ) -> u64 {
     lend(
         entry,
-        image,
+        &mut image.bytes,
         t.image_length as usize,
-        calls,
+        &calls.bytes,
         t.calls_length as usize,
-        answers,
+        &mut answers.bytes,
         t.answers_length as usize,
     )
 }
@@ -63,7 +63,7 @@ pub fn drive_table(
         *second = *image;
     }
     Verdict {
-        total: page_cell(&before, TOTAL, ZONE),
+        total: before.cell(TOTAL, ZONE),
         of_library: number,
         of_ledger: of_ledger,
         agree: agree,

@@ -4,8 +4,8 @@ ghost use Rattle.std.specs.Prelude.{◌≤◌};
 use crate::buffers::{filled, is_filled};
 use ledger_book::{
     ANSWER_LENGTH, CALL_ACCOUNT_END, CALL_AMOUNT_END, CALL_BASIS_END, CALL_CONTRACT_END,
-    CALL_DAYS_END, CALL_KIND_END, CALL_RECEIPT_END, CALL_WEIGHT_END, CALL_ZEROS_END, LAST_NUMBER,
-    Page, TOTAL, ZONE, empty_page, page_cell, put_field,
+    CALL_DAYS_END, CALL_KIND_END, CALL_RECEIPT_END, CALL_WEIGHT_END, CALL_ZEROS_END, Cells,
+    LAST_NUMBER, Page, TOTAL, ZONE,
 };
 use longrun_counts::{Verdict, same};
 use longrun_draws::Request;
@@ -14,16 +14,16 @@ use longrun_draws::Request;
 
 // The call record; bytes past it are zero.
 pub fn record_of(q: Request) -> Page {
-    let mut record: Page = empty_page();
-    put_field(&mut record, 0, CALL_KIND_END, q.kind);
-    put_field(&mut record, CALL_KIND_END, CALL_ACCOUNT_END, q.account);
-    put_field(&mut record, CALL_ACCOUNT_END, CALL_RECEIPT_END, q.receipt);
-    put_field(&mut record, CALL_RECEIPT_END, CALL_CONTRACT_END, q.contract);
-    put_field(&mut record, CALL_CONTRACT_END, CALL_DAYS_END, q.days);
-    put_field(&mut record, CALL_DAYS_END, CALL_ZEROS_END, q.zeros);
-    put_field(&mut record, CALL_ZEROS_END, CALL_AMOUNT_END, q.amount);
-    put_field(&mut record, CALL_AMOUNT_END, CALL_BASIS_END, q.basis);
-    put_field(&mut record, CALL_BASIS_END, CALL_WEIGHT_END, q.weight);
+    let mut record: Page = Page::filled(0);
+    record.put(0..CALL_KIND_END, q.kind);
+    record.put(CALL_KIND_END..CALL_ACCOUNT_END, q.account);
+    record.put(CALL_ACCOUNT_END..CALL_RECEIPT_END, q.receipt);
+    record.put(CALL_RECEIPT_END..CALL_CONTRACT_END, q.contract);
+    record.put(CALL_CONTRACT_END..CALL_DAYS_END, q.days);
+    record.put(CALL_DAYS_END..CALL_ZEROS_END, q.zeros);
+    record.put(CALL_ZEROS_END..CALL_AMOUNT_END, q.amount);
+    record.put(CALL_AMOUNT_END..CALL_BASIS_END, q.basis);
+    record.put(CALL_BASIS_END..CALL_WEIGHT_END, q.weight);
     record
 }
 
@@ -80,11 +80,11 @@ pub fn lend(
 fn lend_pages(entry: u64, q: Request, image: &mut Page, record: &Page, answer: &mut Page) -> u64 {
     lend(
         entry,
-        image,
+        &mut image.bytes,
         q.image_length as usize,
-        record,
+        &record.bytes,
         q.call_length as usize,
-        answer,
+        &mut answer.bytes,
         q.answer_length as usize,
     )
 }
@@ -117,7 +117,7 @@ pub fn drive(q: Request, image: &mut Page, second: &mut Page, answer: &mut Page)
         *second = *image;
     }
     Verdict {
-        total: page_cell(&before, TOTAL, ZONE),
+        total: before.cell(TOTAL, ZONE),
         of_library: number,
         of_ledger: of_ledger,
         agree: agree,

@@ -1,7 +1,7 @@
 // The figures of shortfalls on both sides (02 6/12). The image is lent for reading: no side can change it.
 use crate::buffers::{filled, is_filled};
 use crate::compare::{at_most, wide};
-use ledger_book::{FIGURES_LENGTH, Page, TOTAL, ZONE, page_cell};
+use ledger_book::{Cells, FIGURES_LENGTH, Page, TOTAL, ZONE};
 use longrun_counts::{Verdict, same};
 
 fn shortfalls_lent(library: bool, image: &[u8], figures: &mut [u8]) -> u64 {
@@ -32,9 +32,9 @@ fn lend_pages(
 ) -> u64 {
     lend(
         library,
-        image,
+        &image.bytes,
         image_length as usize,
-        figures,
+        &mut figures.bytes,
         figures_length as usize,
     )
 }
@@ -61,7 +61,7 @@ pub fn drive_shortfalls(
     let of_ledger = lend_pages(false, image, image_length, &mut other, figures_length);
     let alike = (number == of_ledger) & same(figures, &other);
     Verdict {
-        total: page_cell(image, TOTAL, ZONE),
+        total: image.cell(TOTAL, ZONE),
         of_library: number,
         of_ledger: of_ledger,
         agree: alike & as_must_be(number, figures_length, figures),

@@ -17,7 +17,7 @@ fn lend(library: bool, image: &mut [u8], length: usize) -> u64 {
 }
 
 fn lend_page(library: bool, image: &mut Page, length: usize) -> u64 {
-    lend(library, image, length)
+    lend(library, &mut image.bytes, length)
 }
 
 // What document 01 leaves as it was: bytes past the image, and all of them at number 2.

@@ -1,5 +1,4 @@
 // What requests 2 to 4 of document 02 have at their edges and no call reached.
-use ledger_book::{plus, product};
 use longrun_counts::{
     ALTERED_HIGHEST_PREMIUM, COUNTS_OF_HOLDER, COUNTS_OF_PART, HELD_SUMS, HIGHEST_PREMIUM,
     HOLDER_ROWS, LAST_PAYMENT, LEAST_PREMIUM, LIMIT_COUNT, NOBODYS_PREMIUM, PAID_FOR_NOTHING,
@@ -10,8 +9,8 @@ use longrun_counts::{
 // Whether the calls counted from `place` on are not as they must be: some accepted where the value is one that may be; elsewhere none, and
 // some refused by the limit's own number.
 fn is_missed(tally: &Tally, place: u64, may_be: bool) -> bool {
-    let accepted = counted(tally, plus(place, 1)) != 0;
-    let refused = counted(tally, plus(place, 2)) != 0;
+    let accepted = counted(tally, place.wrapping_add(1)) != 0;
+    let refused = counted(tally, place.wrapping_add(2)) != 0;
     (accepted != may_be) | !(may_be | refused)
 }
 
@@ -37,7 +36,7 @@ fn missed_limits(tally: &Tally) -> u64 {
         let limit = k / 3;
         let step = k % 3;
         if is_missed(tally, at_limit(limit, step), may_be(limit, step)) {
-            missed = plus(missed, 1);
+            missed = missed.wrapping_add(1);
         }
     }
     missed
@@ -47,10 +46,10 @@ fn missed_limits(tally: &Tally) -> u64 {
 fn missed_outcomes(tally: &Tally) -> u64 {
     let mut missed: u64 = 0;
     for k in 0..LAST_PAYMENT * PREMIUM_CLASSES {
-        let outcome = plus(1, k / PREMIUM_CLASSES);
-        let class = plus(1, k % PREMIUM_CLASSES);
+        let outcome = (k / PREMIUM_CLASSES).wrapping_add(1);
+        let class = (k % PREMIUM_CLASSES).wrapping_add(1);
         if counted(tally, of_outcome(outcome, class)) == 0 {
-            missed = plus(missed, 1);
+            missed = missed.wrapping_add(1);
         }
     }
     missed
@@ -66,9 +65,9 @@ fn is_part(k: u64) -> bool {
 fn missed_parts(tally: &Tally) -> u64 {
     let mut missed: u64 = 0;
     for k in 0..2 * COUNTS_OF_PART {
-        let reached = counted(tally, plus(PARTS, k)) != 0;
+        let reached = counted(tally, PARTS.wrapping_add(k)) != 0;
         if reached != is_part(k) {
-            missed = plus(missed, 1);
+            missed = missed.wrapping_add(1);
         }
     }
     missed
@@ -78,19 +77,19 @@ fn missed_parts(tally: &Tally) -> u64 {
 fn missed_holders(tally: &Tally) -> u64 {
     let mut missed: u64 = 0;
     for k in 0..HOLDER_ROWS * COUNTS_OF_HOLDER / 3 {
-        if is_missed(tally, plus(HELD_SUMS, product(3, k)), false) {
-            missed = plus(missed, 1);
+        if is_missed(tally, HELD_SUMS.wrapping_add(k.wrapping_mul(3)), false) {
+            missed = missed.wrapping_add(1);
         }
     }
     missed
 }
 
 pub fn missed_edges(tally: &Tally) -> u64 {
-    let missed_payments = plus(missed_limits(tally), missed_parts(tally));
-    let missed_sums = plus(missed_payments, missed_holders(tally));
-    let mut missed = plus(missed_sums, missed_outcomes(tally));
+    let missed_payments = missed_limits(tally).wrapping_add(missed_parts(tally));
+    let missed_sums = missed_payments.wrapping_add(missed_holders(tally));
+    let mut missed = missed_sums.wrapping_add(missed_outcomes(tally));
     if is_missed(tally, NOBODYS_PREMIUM, false) {
-        missed = plus(missed, 1);
+        missed = missed.wrapping_add(1);
     }
     missed
 }

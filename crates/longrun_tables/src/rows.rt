@@ -1,6 +1,6 @@
 // The tables that the program writes.
 use crate::edges::missed_edges;
-use ledger_book::{CONTRACTS, MOST_AMOUNT, MOST_PREMIUM, MOST_TOTAL, minus, plus, product, within};
+use ledger_book::{CONTRACTS, MOST_AMOUNT, MOST_PREMIUM, MOST_TOTAL};
 use longrun_counts::{
     ALTERED_HIGHEST_PREMIUM, ALTERED_LEAST_PREMIUM, ALTERED_PRICE, CALLS, COUNTS_OF_CONTRACT,
     COUNTS_OF_HOLDER, COUNTS_OF_OUTCOME, COUNTS_OF_PART, DIFFERENCES, FRESH, HELD_SUMS,
@@ -22,7 +22,7 @@ fn aligned(rt: &impl Print, value: u64) -> io::Result<()> {
 fn row(rt: &impl Print, tally: &Tally, name: u64, place: u64, width: u64) -> io::Result<()> {
     aligned(rt, name)?;
     for k in 0..width {
-        aligned(rt, counted(tally, plus(place, k)))?;
+        aligned(rt, counted(tally, place.wrapping_add(k)))?;
     }
     println!(rt; "")
 }
@@ -33,8 +33,8 @@ pub fn unnamed_row(rt: &impl Print, tally: &Tally, place: u64, width: u64) -> io
         rt,
         tally,
         counted(tally, place),
-        plus(place, 1),
-        minus(width, 1),
+        place.wrapping_add(1),
+        width.wrapping_sub(1),
     )
 }
 
@@ -48,7 +48,7 @@ pub fn numbered_rows(
     width: u64,
 ) -> io::Result<()> {
     for name in first..end {
-        let from = plus(place, product(minus(name, first), width));
+        let from = place.wrapping_add(name.wrapping_sub(first).wrapping_mul(width));
         row(rt, tally, name, from, width)?;
     }
     Ok(())
@@ -59,20 +59,20 @@ pub fn numbered_rows(
 // Whether a call of this kind can return the number: document 01's table of numbers (01 Answers 12 to 24), with the kinds whose brackets
 // are empty or have no receipt left out (01 Calls 4 to 25).
 fn is_possible(kind: u64, number: u64) -> bool {
-    let has_lot = within(kind, 3, 14) & (kind != 9) & (kind != 11);
+    let has_lot = (3..=14).contains(&kind) & (kind != 9) & (kind != 11);
     match number {
-        0 => within(kind, 1, 15),
+        0 => (1..=15).contains(&kind),
         1 => true,
         2 => true,
         3 => true,
-        4 => within(kind, 1, 14) & (kind != 11),
+        4 => (1..=14).contains(&kind) & (kind != 11),
         5 => (kind == 11) | (kind == 15),
         6 => has_lot,
         7 => has_lot & (kind != 3),
         8 => kind == 6,
         9 => kind == 7,
-        10 => within(kind, 6, 7),
-        11 => (kind == 2) | within(kind, 6, 7),
+        10 => (6..=7).contains(&kind),
+        11 => (kind == 2) | (6..=7).contains(&kind),
         12 => kind == 1,
         _ => kind == 13,
     }
@@ -84,7 +84,7 @@ fn unexpected_pairs(tally: &Tally, possible: bool) -> u64 {
     for k in 0..KIND_ROWS * NUMBERS {
         let reached = counted(tally, pair(0, k)) != 0;
         if (is_possible(k / NUMBERS, k % NUMBERS) == possible) & (reached != possible) {
-            found = plus(found, 1);
+            found = found.wrapping_add(1);
         }
     }
     found
@@ -153,7 +153,7 @@ fn print_entries(rt: &impl Print, tally: &Tally) -> io::Result<()> {
 // A number modulo 2^64, below 0 in its upper half.
 fn print_signed(rt: &impl Print, value: u64) -> io::Result<()> {
     if value > 9223372036854775807 {
-        print!(rt; "-{}", minus(0, value))
+        print!(rt; "-{}", value.wrapping_neg())
     } else {
         print!(rt; "{value}")
     }
@@ -164,8 +164,8 @@ fn limit_rows(rt: &impl Print, tally: &Tally, limit: u64, value: u64) -> io::Res
     for step in 0..3u64 {
         let place = at_limit(limit, step);
         print!(rt; "  ")?;
-        print_signed(rt, minus(plus(value, step), 1))?;
-        row(rt, tally, counted(tally, place), plus(place, 1), 2)?;
+        print_signed(rt, value.wrapping_add(step).wrapping_sub(1))?;
+        row(rt, tally, counted(tally, place), place.wrapping_add(1), 2)?;
     }
     Ok(())
 }
@@ -184,7 +184,7 @@ fn print_limits(rt: &impl Print, tally: &Tally) -> io::Result<()> {
 }
 
 fn print_premiums(rt: &impl Print, tally: &Tally) -> io::Result<()> {
-    let least = minus(0, MOST_PREMIUM);
+    let least = MOST_PREMIUM.wrapping_neg();
     println!(rt; "premium of a registration: calls, accepted, refused by 4")?;
     limit_rows(rt, tally, LEAST_PREMIUM, least)?;
     limit_rows(rt, tally, HIGHEST_PREMIUM, MOST_PREMIUM)?;
@@ -195,7 +195,7 @@ fn print_premiums(rt: &impl Print, tally: &Tally) -> io::Result<()> {
 }
 
 fn print_altered(rt: &impl Print, tally: &Tally) -> io::Result<()> {
-    let least = minus(0, MOST_PREMIUM);
+    let least = MOST_PREMIUM.wrapping_neg();
     println!(rt; "premium put into an image: calls, accepted, refused by 2")?;
     limit_rows(rt, tally, ALTERED_LEAST_PREMIUM, least)?;
     limit_rows(rt, tally, ALTERED_HIGHEST_PREMIUM, MOST_PREMIUM)?;
@@ -206,7 +206,7 @@ fn print_altered(rt: &impl Print, tally: &Tally) -> io::Result<()> {
         rt,
         tally,
         counted(tally, NOBODYS_PREMIUM),
-        plus(NOBODYS_PREMIUM, 1),
+        NOBODYS_PREMIUM.wrapping_add(1),
         2,
     )
 }

@@ -2,9 +2,8 @@
 use crate::sums::rebook;
 use crate::values::{displace, limit_in_receipt, limit_in_zone};
 use ledger_book::{
-    ASK, CONFIRMED, CONTRACTS, FREE, FROZEN, OWNER, PAID, PENDING, PREMIUM, Page,
-    RECEIPT_COLUMNS_END, RECEIPTS, STATE, TOTAL, ZONE, minus, page_cell, paid_of_rest, plus,
-    set_page_cell,
+    ASK, CONFIRMED, CONTRACTS, Cells, FREE, FROZEN, OWNER, PAID, PENDING, PREMIUM, Page,
+    RECEIPT_COLUMNS_END, RECEIPTS, STATE, TOTAL, ZONE, paid_of_rest,
 };
 use longrun_calls::Plan;
 use longrun_draws::{below, between, full_of, percent, raise_cell};
@@ -24,12 +23,12 @@ fn some_column(seed: &mut u64, in_parts: bool) -> u64 {
 
 // What is paid follows another field of the lot, so that it is not what decides.
 fn fit_paid(image: &mut Page, lot: u64) {
-    let paid = paid_of_rest(full_of(image, lot), page_cell(image, CONFIRMED, lot));
-    set_page_cell(image, PAID, lot, paid);
+    let paid = paid_of_rest(full_of(image, lot), image.cell(CONFIRMED, lot));
+    image.set(PAID, lot, paid);
 }
 
 fn damage_receipt(seed: &mut u64, image: &mut Page, lot: u64) {
-    let in_parts = page_cell(image, STATE, lot) == 6;
+    let in_parts = image.cell(STATE, lot) == 6;
     let column = some_column(seed, in_parts);
     let limit = limit_in_receipt(seed, image, lot, column);
     displace(seed, image, column, lot, limit);
@@ -52,7 +51,7 @@ fn damage_account(seed: &mut u64, image: &mut Page, accounts: u64) {
         raise_cell(image, TOTAL, ZONE, added);
     }
     if percent(seed, 30) {
-        raise_cell(image, FREE, other, minus(0, added));
+        raise_cell(image, FREE, other, added.wrapping_neg());
     }
 }
 
@@ -63,7 +62,7 @@ fn damage_zone(seed: &mut u64, image: &mut Page) {
     let mut row = ZONE;
     if draw >= FREE {
         column = ASK;
-        row = plus(minus(draw, FREE), 1);
+        row = draw.wrapping_sub(FREE).wrapping_add(1);
     }
     let limit = limit_in_zone(seed, column);
     displace(seed, image, column, row, limit);
@@ -77,7 +76,7 @@ fn some_lot(seed: &mut u64, receipts: u64, image: &Page) -> u64 {
     if percent(seed, 20) {
         return between(seed, 1, RECEIPTS);
     }
-    if page_cell(image, STATE, one) > page_cell(image, STATE, other) {
+    if image.cell(STATE, one) > image.cell(STATE, other) {
         return one;
     }
     other

@@ -9,7 +9,7 @@ mod sums;
 mod values;
 
 use damage::damage;
-use ledger_book::{FREE, MOST_AMOUNT, MOST_TOTAL, Page, TOTAL, ZONE, minus, page_cell};
+use ledger_book::{Cells, FREE, MOST_AMOUNT, MOST_TOTAL, Page, TOTAL, ZONE};
 use longrun_calls::{Plan, close_phase, sensible, step_lot};
 use longrun_draws::{Request, below, beside, between, pay_in, percent, raise_cell};
 use misplaced::misplace;
@@ -22,13 +22,13 @@ fn some_total(seed: &mut u64) -> u64 {
     if percent(seed, 50) {
         return beside(seed, MOST_TOTAL);
     }
-    minus(MOST_TOTAL, below(seed, MOST_AMOUNT))
+    MOST_TOTAL.wrapping_sub(below(seed, MOST_AMOUNT))
 }
 
 // Gives an account the free money that the total lacks, and pays in what is left to the limit.
 fn near_limit(seed: &mut u64, image: &mut Page, accounts: u64) -> Request {
     let account = between(seed, 1, accounts);
-    let lacking = minus(some_total(seed), page_cell(image, TOTAL, ZONE));
+    let lacking = some_total(seed).wrapping_sub(image.cell(TOTAL, ZONE));
     raise_cell(image, FREE, account, lacking);
     raise_cell(image, TOTAL, ZONE, lacking);
     pay_in(seed, image, account)

@@ -2,7 +2,7 @@
 use ledger_book::{
     ACCOUNTS, ANSWER_LENGTH, CALL_LENGTH, CONTRACTS, DEPOSIT, IMAGE_LENGTH, LAST_DAY, LAST_DUE,
     LAST_KIND, LEAST_WEIGHT, MOST_AMOUNT, MOST_BASIS, MOST_DAYS, MOST_PREMIUM, MOST_PRICE,
-    MOST_TOTAL, MOST_WEIGHT, PRICE_STEP, RECEIPTS, SPARE_LENGTH, minus, plus,
+    MOST_TOTAL, MOST_WEIGHT, PRICE_STEP, RECEIPTS, SPARE_LENGTH,
 };
 use longrun_draws::{Request, below, beside, between, percent, word};
 
@@ -51,7 +51,7 @@ pub fn edge(seed: &mut u64) -> u64 {
     }
     value = beside(seed, value);
     if percent(seed, 20) {
-        return minus(0, value);
+        return value.wrapping_neg();
     }
     value
 }
@@ -88,9 +88,9 @@ pub fn odd_length(seed: &mut u64, right: usize) -> u64 {
     let length = right as u64;
     let draw = below(seed, 4);
     match draw {
-        0 => minus(length, 1),
-        1 => plus(length, 1),
-        _ => between(seed, 0, plus(length, SPARE_LENGTH as u64)),
+        0 => length.wrapping_sub(1),
+        1 => length.wrapping_add(1),
+        _ => between(seed, 0, length.wrapping_add(SPARE_LENGTH as u64)),
     }
 }
 
@@ -102,7 +102,9 @@ fn odd_buffer(seed: &mut u64, known: Request) -> Request {
         0 => q.call_length = odd_length(seed, CALL_LENGTH),
         1 => q.image_length = odd_length(seed, IMAGE_LENGTH),
         2 => q.answer_length = odd_length(seed, ANSWER_LENGTH),
-        _ => q.answer_length = plus(q.answer_length, below(seed, SPARE_LENGTH as u64)),
+        _ => q.answer_length = q
+            .answer_length
+            .wrapping_add(below(seed, SPARE_LENGTH as u64)),
     }
     q
 }

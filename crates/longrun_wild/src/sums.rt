@@ -1,18 +1,15 @@
 // Sums that fit again: frozen money and total as the lots and balances make them.
-use ledger_book::{
-    ACCOUNTS, BUYER, FREE, FROZEN, Page, RECEIPTS, TOTAL, ZONE, is_account, page_cell, plus,
-    set_page_cell,
-};
+use ledger_book::{ACCOUNTS, BUYER, Cells, FREE, FROZEN, Page, RECEIPTS, TOTAL, ZONE, is_account};
 use longrun_draws::{held_by, raise_cell};
 
 fn clear_frozen(image: &mut Page) {
     for account in 1..ACCOUNTS + 1 {
-        set_page_cell(image, FROZEN, account, 0);
+        image.set(FROZEN, account, 0);
     }
 }
 
 fn freeze(image: &mut Page, lot: u64) {
-    let buyer = page_cell(image, BUYER, lot);
+    let buyer = image.cell(BUYER, lot);
     if is_account(buyer) {
         raise_cell(image, FROZEN, buyer, held_by(image, lot));
     }
@@ -25,11 +22,11 @@ fn freeze_all(image: &mut Page) {
 }
 
 fn add_up(image: &mut Page) {
-    set_page_cell(image, TOTAL, ZONE, 0);
+    image.set(TOTAL, ZONE, 0);
     for account in 1..ACCOUNTS + 1 {
-        let free = page_cell(image, FREE, account);
-        let frozen = page_cell(image, FROZEN, account);
-        raise_cell(image, TOTAL, ZONE, plus(free, frozen));
+        let free = image.cell(FREE, account);
+        let frozen = image.cell(FROZEN, account);
+        raise_cell(image, TOTAL, ZONE, free.wrapping_add(frozen));
     }
 }
 

@@ -1,9 +1,9 @@
 // Another value for a field.
 use crate::odd::edge;
 use ledger_book::{
-    ACCOUNTS, ASK, BASIS, BUYER, CONFIRMED, CONTRACT, CONTRACTS, DAY, DUE, LAST_DAY, LAST_DUE,
-    LEAST_WEIGHT, MOST_PREMIUM, MOST_TOTAL, MOST_WEIGHT, OWNER, PAID, PENDING, PREMIUM, PRICE,
-    Page, SELLER, WEIGHT, is_premium, minus, page_cell, paid_of_rest, plus, product, set_page_cell,
+    ACCOUNTS, ASK, BASIS, BUYER, CONFIRMED, CONTRACT, CONTRACTS, Cells, DAY, DUE, LAST_DAY,
+    LAST_DUE, LEAST_WEIGHT, MOST_PREMIUM, MOST_TOTAL, MOST_WEIGHT, OWNER, PAID, PENDING, PREMIUM,
+    PRICE, Page, SELLER, WEIGHT, is_premium, paid_of_rest,
 };
 use longrun_draws::{below, beside, between, full_of, percent, price_edge, to_nothing, word};
 
@@ -11,9 +11,9 @@ use longrun_draws::{below, beside, between, full_of, percent, price_edge, to_not
 fn range_edge(seed: &mut u64, first: u64, last: u64) -> u64 {
     let draw = below(seed, 4);
     if draw < 2 {
-        return minus(plus(first, draw), 1);
+        return first.wrapping_add(draw).wrapping_sub(1);
     }
-    plus(last, minus(draw, 2))
+    last.wrapping_add(draw.wrapping_sub(2))
 }
 
 // What leaves next to nothing to pay for a tonne, mostly where that is a premium; else an end of the range or a number beside it.
@@ -23,7 +23,7 @@ fn premium_edge(seed: &mut u64, price: u64, basis: u64) -> u64 {
         return least;
     }
     if percent(seed, 50) {
-        return beside(seed, minus(0, MOST_PREMIUM));
+        return beside(seed, MOST_PREMIUM.wrapping_neg());
     }
     beside(seed, MOST_PREMIUM)
 }
@@ -34,27 +34,28 @@ fn confirmed_edge(seed: &mut u64, full: u64, pending: u64) -> u64 {
     if percent(seed, 30) {
         return 0;
     }
-    minus(plus(full, beyond), plus(pending, 1))
+    full.wrapping_add(beyond)
+        .wrapping_sub(pending.wrapping_add(1))
 }
 
 // A value at the field's own limit or just beyond, which other fields of the receipt may set.
 pub fn limit_in_receipt(seed: &mut u64, image: &Page, lot: u64, column: u64) -> u64 {
     let beyond = below(seed, 2);
     let full = full_of(image, lot);
-    let confirmed = page_cell(image, CONFIRMED, lot);
-    let price = page_cell(image, PRICE, lot);
+    let confirmed = image.cell(CONFIRMED, lot);
+    let price = image.cell(PRICE, lot);
     match column {
         OWNER => range_edge(seed, 1, ACCOUNTS),
-        SELLER => page_cell(image, BUYER, lot),
-        BUYER => page_cell(image, SELLER, lot),
+        SELLER => image.cell(BUYER, lot),
+        BUYER => image.cell(SELLER, lot),
         CONTRACT => range_edge(seed, 1, CONTRACTS),
         DUE => range_edge(seed, 1, LAST_DUE),
         WEIGHT => range_edge(seed, LEAST_WEIGHT, MOST_WEIGHT),
-        BASIS => to_nothing(seed, price, page_cell(image, PREMIUM, lot)),
-        PREMIUM => premium_edge(seed, price, page_cell(image, BASIS, lot)),
+        BASIS => to_nothing(seed, price, image.cell(PREMIUM, lot)),
+        PREMIUM => premium_edge(seed, price, image.cell(BASIS, lot)),
         PRICE => price_edge(seed),
-        PENDING => plus(minus(full, confirmed), beyond),
-        CONFIRMED => confirmed_edge(seed, full, page_cell(image, PENDING, lot)),
+        PENDING => full.wrapping_sub(confirmed).wrapping_add(beyond),
+        CONFIRMED => confirmed_edge(seed, full, image.cell(PENDING, lot)),
         PAID => beside(seed, paid_of_rest(full, confirmed)),
         _ => below(seed, 9),
     }
@@ -65,16 +66,16 @@ pub fn limit_in_zone(seed: &mut u64, column: u64) -> u64 {
     match column {
         DAY => range_edge(seed, 1, LAST_DAY),
         ASK => price_edge(seed),
-        _ => plus(MOST_TOTAL, below(seed, 2)),
+        _ => MOST_TOTAL.wrapping_add(below(seed, 2)),
     }
 }
 
 fn other_value(seed: &mut u64, old: u64, limit: u64) -> u64 {
     let draw = below(seed, 10);
     match draw {
-        0 => plus(old, 1),
-        1 => minus(old, 1),
-        2 => plus(old, product(5, between(seed, 1, 3))),
+        0 => old.wrapping_add(1),
+        1 => old.wrapping_sub(1),
+        2 => old.wrapping_add(between(seed, 1, 3).wrapping_mul(5)),
         3 => edge(seed),
         4 => word(seed),
         _ => limit,
@@ -83,10 +84,10 @@ fn other_value(seed: &mut u64, old: u64, limit: u64) -> u64 {
 
 // Puts another value into the field; what was added, modulo 2^64.
 pub fn displace(seed: &mut u64, image: &mut Page, column: u64, row: u64, limit: u64) -> u64 {
-    let old = page_cell(image, column, row);
-    set_page_cell(image, column, row, other_value(seed, old, limit));
-    if page_cell(image, column, row) == old {
-        set_page_cell(image, column, row, plus(old, 1));
+    let old = image.cell(column, row);
+    image.set(column, row, other_value(seed, old, limit));
+    if image.cell(column, row) == old {
+        image.set(column, row, old.wrapping_add(1));
     }
-    minus(page_cell(image, column, row), old)
+    image.cell(column, row).wrapping_sub(old)
 }
