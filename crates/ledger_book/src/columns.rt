@@ -1,62 +1,95 @@
 // The book: columns of numbers. A lot, an account and a contract have the row of their number, the zone has row 1; row 0 is nobody's.
-use crate::payments::{minus, plus};
-use crate::places::{ASK, COLUMNS, CONTRACT, FROM, LOT, NUMBER, OUTCOME, RECEIPTS, TO};
+use crate::holdings::Cells;
+use crate::numbered::Outcome;
+use crate::places::{ASK, BUYER, COLUMNS, CONTRACT, RECEIPTS, WEALTH};
 
 // As many rows as the longest table wants.
-pub const ROWS: u64 = RECEIPTS + 1;
+const ROWS: usize = RECEIPTS as usize + 1;
 
-pub const BOOK_LENGTH: usize = (COLUMNS * ROWS) as usize;
-
-pub type Book = [u64; BOOK_LENGTH];
+const BOOK_COLUMNS: usize = COLUMNS as usize;
 
 // The row of the header's columns.
 pub const ZONE: u64 = 1;
 
-pub fn empty_book() -> Book {
-    [0; BOOK_LENGTH]
+// What the call's answer lists about a lot.
+#[derive(Clone, Copy)]
+pub struct Entry {
+    pub lot: u64,
+    pub outcome: Outcome,
+    pub from: u64,
+    pub to: u64,
+    pub number: u64,
 }
 
-// Where a number indexes an array it is tested against the length, here and in the other crates of tests: with the test each function is
-// proved safe without asking anything of its callers, none of which passes a number beyond.
-pub fn cell(book: &Book, column: u64, row: u64) -> u64 {
-    if column < COLUMNS {
-        if row < ROWS {
-            let at = (column * ROWS + row) as usize;
-            return book[at];
+#[derive(Clone, Copy)]
+pub struct Book {
+    columns: [[u64; ROWS]; BOOK_COLUMNS],
+    // By lot.
+    pub entries: [Option<Entry>; ROWS],
+}
+
+impl Book {
+    pub fn empty() -> Book {
+        Book {
+            columns: [[0; ROWS]; BOOK_COLUMNS],
+            entries: [None; ROWS],
         }
     }
-    0
-}
 
-pub fn set_cell(book: &mut Book, column: u64, row: u64, value: u64) {
-    if column < COLUMNS {
-        if row < ROWS {
-            let at = (column * ROWS + row) as usize;
-            book[at] = value;
+    pub fn set(&mut self, column: u64, row: u64, value: u64) {
+        if let Some(rows) = self.columns.get_mut(column as usize) {
+            if let Some(cell) = rows.get_mut(row as usize) {
+                *cell = value;
+            }
+        }
+    }
+
+    // Sums and differences go modulo 2^64. In a valid zone the ranges keep the true ones within 0 to 2^64 - 1, and an image with more free
+    // money than a zone may hold is turned down before anything is summed.
+    pub fn raise(&mut self, column: u64, row: u64, by: u64) {
+        self.set(column, row, self.cell(column, row).wrapping_add(by));
+    }
+
+    pub fn lower(&mut self, column: u64, row: u64, by: u64) {
+        self.set(column, row, self.cell(column, row).wrapping_sub(by));
+    }
+
+    // The ask of a lot's contract.
+    pub fn ask_of(&self, lot: u64) -> u64 {
+        self.cell(ASK, self.cell(CONTRACT, lot))
+    }
+
+    // An account's frozen money: what all lots hold from it.
+    fn frozen(&self, account: u64) -> u64 {
+        (1..=RECEIPTS)
+            .filter(|lot| self.cell(BUYER, *lot) == account)
+            .fold(0, |sum, lot| sum.wrapping_add(self.held(lot)))
+    }
+
+    pub fn free(&self, account: u64) -> u64 {
+        self.cell(WEALTH, account)
+            .wrapping_sub(self.frozen(account))
+    }
+
+    // Fen that pass from one account to another.
+    pub fn pass(&mut self, from: u64, to: u64, fen: u64) {
+        self.lower(WEALTH, from, fen);
+        self.raise(WEALTH, to, fen);
+    }
+
+    // Notes the entry of a lot. A call has at most one for each lot.
+    pub fn note(&mut self, entry: Entry) {
+        if let Some(place) = self.entries.get_mut(entry.lot as usize) {
+            *place = Some(entry);
         }
     }
 }
 
-pub fn raise(book: &mut Book, column: u64, row: u64, by: u64) {
-    let value = plus(cell(book, column, row), by);
-    set_cell(book, column, row, value);
-}
-
-pub fn lower(book: &mut Book, column: u64, row: u64, by: u64) {
-    let value = minus(cell(book, column, row), by);
-    set_cell(book, column, row, value);
-}
-
-// The ask of a lot's contract.
-pub fn ask_of(book: &Book, lot: u64) -> u64 {
-    cell(book, ASK, cell(book, CONTRACT, lot))
-}
-
-// Notes the entry of a lot. A call has at most one for each lot.
-pub fn note(book: &mut Book, lot: u64, outcome: u64, from: u64, to: u64, number: u64) {
-    set_cell(book, LOT, lot, lot);
-    set_cell(book, OUTCOME, lot, outcome);
-    set_cell(book, FROM, lot, from);
-    set_cell(book, TO, lot, to);
-    set_cell(book, NUMBER, lot, number);
+impl Cells for Book {
+    fn cell(&self, column: u64, row: u64) -> u64 {
+        self.columns
+            .get(column as usize)
+            .and_then(|rows| rows.get(row as usize))
+            .map_or(0, |cell| *cell)
+    }
 }

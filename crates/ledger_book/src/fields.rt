@@ -1,78 +1,64 @@
-// Little-endian numbers in bytes, from a start up to an end (01 Opening 5). A byte past the end of a buffer reads as 0.
-use crate::payments::plus;
-use crate::places::{PAGE_LENGTH, end_of, start_of};
+// Little-endian numbers in bytes (01 Opening 5). A field that a buffer does not have reads as 0.
+use crate::holdings::Cells;
+use crate::places::{CALL_LENGTH, PAGE_LENGTH, place_of};
+use std::ops::Range;
 
-fn wide(x: u8) -> u64 {
-    x as u64
+pub fn field(bytes: &[u8], place: Range<usize>) -> u64 {
+    bytes
+        .get(place)
+        .unwrap_or(&[])
+        .iter()
+        .rev()
+        .fold(0, |value, byte| (value << 8) | u64::from(*byte))
 }
 
-pub fn byte(s: &[u8], at: u64) -> u64 {
-    let k = at as usize;
-    if k < s.len() {
-        return wide(s[k]);
+// A buffer for an image, a call record, an answer or figures, or for the records of a table of calls.
+#[derive(Clone, Copy, PartialEq, Eq)]
+pub struct Page {
+    pub bytes: [u8; PAGE_LENGTH],
+}
+
+impl Page {
+    pub fn filled(byte: u8) -> Page {
+        Page {
+            bytes: [byte; PAGE_LENGTH],
+        }
     }
-    0
-}
 
-pub fn field(s: &[u8], start: u64, end: u64) -> u64 {
-    let mut value: u64 = 0;
-    let mut at = end;
-    while at > start {
-        at -= 1;
-        value = plus(value << 8, byte(s, at));
+    pub fn field(&self, place: Range<usize>) -> u64 {
+        field(&self.bytes, place)
     }
-    value
-}
 
-// What is to be written stands on a page of zeros first.
-pub type Page = [u8; PAGE_LENGTH];
-
-pub fn empty_page() -> Page {
-    [0; PAGE_LENGTH]
-}
-
-// A field of a page. Taking no slice, it asks its callers for no proof of a length.
-pub fn page_field(page: &Page, start: u64, end: u64) -> u64 {
-    field(page, start, end)
-}
-
-fn put_byte(page: &mut Page, at: u64, value: u64) {
-    let k = at as usize;
-    if k < PAGE_LENGTH {
-        page[k] = (value % 256) as u8;
+    pub fn put(&mut self, place: Range<usize>, value: u64) {
+        if let Some(bytes) = self.bytes.get_mut(place) {
+            for (byte, digit) in bytes.iter_mut().zip(value.to_le_bytes()) {
+                *byte = digit;
+            }
+        }
     }
-}
 
-pub fn put_field(page: &mut Page, start: u64, end: u64, value: u64) {
-    let mut rest = value;
-    for at in start..end {
-        put_byte(page, at, rest);
-        rest = rest / 256;
+    // The cell of a column, where a page has it.
+    pub fn set(&mut self, column: u64, row: u64, value: u64) {
+        self.put(place_of(column, row), value);
     }
-}
 
-// The cell of a column, where a page has it.
-pub fn page_cell(page: &Page, column: u64, row: u64) -> u64 {
-    field(page, start_of(column, row), end_of(column, row))
-}
+    // The first `count` bytes, as far as the buffer goes.
+    pub fn copy_out(&self, buffer: &mut [u8], count: usize) {
+        for (to, from) in buffer.iter_mut().zip(self.bytes.iter().take(count)) {
+            *to = *from;
+        }
+    }
 
-pub fn set_page_cell(page: &mut Page, column: u64, row: u64, value: u64) {
-    put_field(page, start_of(column, row), end_of(column, row), value);
-}
-
-// Past the end of the page or of the buffer nothing is copied.
-fn copy_byte(page: &Page, from: usize, buffer: &mut [u8], to: usize) {
-    if from < PAGE_LENGTH {
-        if to < buffer.len() {
-            buffer[to] = page[from];
+    // Puts a call record where the call with this number has its own.
+    pub fn put_record(&mut self, k: u64, record: &Page) {
+        if let Some(place) = self.bytes.chunks_exact_mut(CALL_LENGTH).nth(k as usize) {
+            record.copy_out(place, CALL_LENGTH);
         }
     }
 }
 
-// The first `count` bytes of a page, to the buffer's place `start` and on.
-pub fn copy_out(page: &Page, buffer: &mut [u8], start: u64, count: usize) {
-    for k in 0..count {
-        let at = plus(start, k as u64) as usize;
-        copy_byte(page, k, buffer, at);
+impl Cells for Page {
+    fn cell(&self, column: u64, row: u64) -> u64 {
+        self.field(place_of(column, row))
     }
 }

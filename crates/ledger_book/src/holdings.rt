@@ -1,55 +1,44 @@
-// What lots hold from accounts, counted from the lots themselves.
-use crate::columns::{Book, ROWS, cell, lower, raise};
-use crate::payments::{DEPOSIT, full_payment, minus, plus, rest_payment};
-use crate::places::{BASIS, BUYER, PAID, PREMIUM, PRICE, STATE, WEALTH, WEIGHT};
+// What the cells of an image say, and what lots hold from accounts, counted from the lots themselves.
+use crate::columns::ZONE;
+use crate::numbered::{Phase, State};
+use crate::payments::{DEPOSIT, full_payment, rest_payment};
+use crate::places::{BASIS, PAID, PHASE, PREMIUM, PRICE, STATE, WEIGHT};
 
-pub fn full_of(book: &Book, lot: u64) -> u64 {
-    full_payment(
-        cell(book, PRICE, lot),
-        cell(book, BASIS, lot),
-        cell(book, PREMIUM, lot),
-        cell(book, WEIGHT, lot),
-    )
-}
+// What has the fields of an image by column and row: the book, or the bytes of a page.
+pub trait Cells {
+    // 0 where there is no such cell.
+    fn cell(&self, column: u64, row: u64) -> u64;
 
-// What a lot of this state holds from its buyer: the deposit up to settlement, then the full payment, then what is unpaid of it
-// (01 Image 15).
-pub fn held_in_state(state: u64, full: u64, paid: u64) -> u64 {
-    match state {
-        2 => DEPOSIT,
-        3 => DEPOSIT,
-        4 => DEPOSIT,
-        5 => full,
-        6 => minus(rest_payment(full), paid),
-        _ => 0,
-    }
-}
-
-pub fn hold(book: &Book, lot: u64) -> u64 {
-    held_in_state(
-        cell(book, STATE, lot),
-        full_of(book, lot),
-        cell(book, PAID, lot),
-    )
-}
-
-// An account's frozen money: what all lots hold from it.
-pub fn frozen(book: &Book, account: u64) -> u64 {
-    let mut sum: u64 = 0;
-    for lot in 1..ROWS {
-        if cell(book, BUYER, lot) == account {
-            sum = plus(sum, hold(book, lot));
+    fn phase(&self) -> Phase {
+        match self.cell(PHASE, ZONE) {
+            0 => Phase::Morning,
+            _ => Phase::Afternoon,
         }
     }
-    sum
-}
 
-pub fn free(book: &Book, account: u64) -> u64 {
-    minus(cell(book, WEALTH, account), frozen(book, account))
-}
+    // None where the number is none of a state's, as in an image that is not valid.
+    fn state(&self, lot: u64) -> Option<State> {
+        State::try_from(self.cell(STATE, lot)).ok()
+    }
 
-// Fen that pass from one account to another.
-pub fn pass(book: &mut Book, from: u64, to: u64, fen: u64) {
-    lower(book, WEALTH, from, fen);
-    raise(book, WEALTH, to, fen);
+    fn full_payment(&self, lot: u64) -> u64 {
+        full_payment(
+            self.cell(PRICE, lot),
+            self.cell(BASIS, lot),
+            self.cell(PREMIUM, lot),
+            self.cell(WEIGHT, lot),
+        )
+    }
+
+    // What the lot holds from its buyer: the deposit up to settlement, then the full payment, then what is unpaid of it (01 Image 15).
+    fn held(&self, lot: u64) -> u64 {
+        match self.state(lot) {
+            Some(State::BidStands | State::Struck | State::Lodged) => DEPOSIT,
+            Some(State::Settled) => self.full_payment(lot),
+            Some(State::FirstPaid) => {
+                rest_payment(self.full_payment(lot)).wrapping_sub(self.cell(PAID, lot))
+            }
+            _ => 0,
+        }
+    }
 }

@@ -6,20 +6,21 @@
 // image, of an entry and of the figures are also columns of the book, in the same order.
 //
 // A field more is one line in each of three lists: where it ends, its column, and the ends by column. A table more is a `Table` besides.
-use crate::payments::{minus, plus, product};
+use crate::payments::product;
+use std::ops::Range;
 
 // ── Sizes of numbers, and how many there are of each thing ──────────────────────────────────────
 
-const U8: u64 = 1;
+const U8: usize = 1;
 
-const U16: u64 = 2;
+const U16: usize = 2;
 
-const U32: u64 = 4;
+const U32: usize = 4;
 
-const U64: u64 = 8;
+const U64: usize = 8;
 
 // The bytes that must be zero in a header and in a call record.
-const ZERO_BYTES: u64 = 3;
+const ZERO_BYTES: usize = 3;
 
 pub const ACCOUNTS: u64 = 96;
 
@@ -29,81 +30,81 @@ pub const CONTRACTS: u64 = 8;
 
 // ── The header ──────────────────────────────────────────────────────────────────────────────────
 
-const ACCOUNT_COUNT_END: u64 = U16;
+const ACCOUNT_COUNT_END: usize = U16;
 
-const RECEIPT_COUNT_END: u64 = ACCOUNT_COUNT_END + U16;
+const RECEIPT_COUNT_END: usize = ACCOUNT_COUNT_END + U16;
 
-const CONTRACT_COUNT_END: u64 = RECEIPT_COUNT_END + U16;
+const CONTRACT_COUNT_END: usize = RECEIPT_COUNT_END + U16;
 
-const DAY_END: u64 = CONTRACT_COUNT_END + U16;
+const DAY_END: usize = CONTRACT_COUNT_END + U16;
 
-const ACCOUNT_OFFSET_END: u64 = DAY_END + U32;
+const ACCOUNT_OFFSET_END: usize = DAY_END + U32;
 
-const CONTRACT_OFFSET_END: u64 = ACCOUNT_OFFSET_END + U32;
+const CONTRACT_OFFSET_END: usize = ACCOUNT_OFFSET_END + U32;
 
-const RECEIPT_OFFSET_END: u64 = CONTRACT_OFFSET_END + U32;
+const RECEIPT_OFFSET_END: usize = CONTRACT_OFFSET_END + U32;
 
-const PHASE_END: u64 = RECEIPT_OFFSET_END + U8;
+const PHASE_END: usize = RECEIPT_OFFSET_END + U8;
 
-const ZEROS_END: u64 = PHASE_END + ZERO_BYTES;
+const ZEROS_END: usize = PHASE_END + ZERO_BYTES;
 
-const TOTAL_END: u64 = ZEROS_END + U64;
+const TOTAL_END: usize = ZEROS_END + U64;
 
-pub const HEADER_LENGTH: u64 = TOTAL_END;
+const HEADER_LENGTH: usize = TOTAL_END;
 
 // ── An account and a contract ───────────────────────────────────────────────────────────────────
 
-const FREE_END: u64 = U64;
+const FREE_END: usize = U64;
 
-const FROZEN_END: u64 = FREE_END + U64;
+const FROZEN_END: usize = FREE_END + U64;
 
-pub const ACCOUNT_LENGTH: u64 = FROZEN_END;
+const ACCOUNT_LENGTH: usize = FROZEN_END;
 
-const ASK_END: u64 = U32;
+const ASK_END: usize = U32;
 
-pub const CONTRACT_LENGTH: u64 = ASK_END;
+const CONTRACT_LENGTH: usize = ASK_END;
 
 // ── A receipt ───────────────────────────────────────────────────────────────────────────────────
 
-const OWNER_END: u64 = U8;
+const OWNER_END: usize = U8;
 
-const STATE_END: u64 = OWNER_END + U8;
+const STATE_END: usize = OWNER_END + U8;
 
-const SELLER_END: u64 = STATE_END + U8;
+const SELLER_END: usize = STATE_END + U8;
 
-const BUYER_END: u64 = SELLER_END + U8;
+const BUYER_END: usize = SELLER_END + U8;
 
-const CONTRACT_END: u64 = BUYER_END + U8;
+const CONTRACT_END: usize = BUYER_END + U8;
 
-const DAYS_END: u64 = CONTRACT_END + U8;
+const DAYS_END: usize = CONTRACT_END + U8;
 
-const DUE_END: u64 = DAYS_END + U16;
+const DUE_END: usize = DAYS_END + U16;
 
-const WEIGHT_END: u64 = DUE_END + U32;
+const WEIGHT_END: usize = DUE_END + U32;
 
-const BASIS_END: u64 = WEIGHT_END + U32;
+const BASIS_END: usize = WEIGHT_END + U32;
 
-const PRICE_END: u64 = BASIS_END + U32;
+const PRICE_END: usize = BASIS_END + U32;
 
-const PENDING_END: u64 = PRICE_END + U32;
+const PENDING_END: usize = PRICE_END + U32;
 
-const CONFIRMED_END: u64 = PENDING_END + U32;
+const CONFIRMED_END: usize = PENDING_END + U32;
 
-const PAID_END: u64 = CONFIRMED_END + U32;
+const PAID_END: usize = CONFIRMED_END + U32;
 
-const PREMIUM_END: u64 = PAID_END + U32;
+const PREMIUM_END: usize = PAID_END + U32;
 
-pub const RECEIPT_LENGTH: u64 = PREMIUM_END;
+const RECEIPT_LENGTH: usize = PREMIUM_END;
 
 // ── The image ───────────────────────────────────────────────────────────────────────────────────
 
-pub const ACCOUNT_START: u64 = HEADER_LENGTH;
+pub const ACCOUNT_START: usize = HEADER_LENGTH;
 
-pub const CONTRACT_START: u64 = ACCOUNT_START + ACCOUNTS * ACCOUNT_LENGTH;
+pub const CONTRACT_START: usize = ACCOUNT_START + ACCOUNTS as usize * ACCOUNT_LENGTH;
 
-pub const RECEIPT_START: u64 = CONTRACT_START + CONTRACTS * CONTRACT_LENGTH;
+pub const RECEIPT_START: usize = CONTRACT_START + CONTRACTS as usize * CONTRACT_LENGTH;
 
-pub const IMAGE_LENGTH: usize = (RECEIPT_START + RECEIPTS * RECEIPT_LENGTH) as usize;
+pub const IMAGE_LENGTH: usize = RECEIPT_START + RECEIPTS as usize * RECEIPT_LENGTH;
 
 // A buffer for an image, a call record or an answer is a page. It has bytes to spare, for runs that lend one that is too long.
 pub const SPARE_LENGTH: usize = 64;
@@ -112,53 +113,53 @@ pub const PAGE_LENGTH: usize = IMAGE_LENGTH + SPARE_LENGTH;
 
 // ── The call record ─────────────────────────────────────────────────────────────────────────────
 
-pub const CALL_KIND_END: u64 = U8;
+pub const CALL_KIND_END: usize = U8;
 
-pub const CALL_ACCOUNT_END: u64 = CALL_KIND_END + U8;
+pub const CALL_ACCOUNT_END: usize = CALL_KIND_END + U8;
 
-pub const CALL_RECEIPT_END: u64 = CALL_ACCOUNT_END + U8;
+pub const CALL_RECEIPT_END: usize = CALL_ACCOUNT_END + U8;
 
-pub const CALL_CONTRACT_END: u64 = CALL_RECEIPT_END + U8;
+pub const CALL_CONTRACT_END: usize = CALL_RECEIPT_END + U8;
 
-pub const CALL_DAYS_END: u64 = CALL_CONTRACT_END + U8;
+pub const CALL_DAYS_END: usize = CALL_CONTRACT_END + U8;
 
-pub const CALL_ZEROS_END: u64 = CALL_DAYS_END + ZERO_BYTES;
+pub const CALL_ZEROS_END: usize = CALL_DAYS_END + ZERO_BYTES;
 
-pub const CALL_AMOUNT_END: u64 = CALL_ZEROS_END + U64;
+pub const CALL_AMOUNT_END: usize = CALL_ZEROS_END + U64;
 
-pub const CALL_BASIS_END: u64 = CALL_AMOUNT_END + U32;
+pub const CALL_BASIS_END: usize = CALL_AMOUNT_END + U32;
 
-pub const CALL_WEIGHT_END: u64 = CALL_BASIS_END + U32;
+pub const CALL_WEIGHT_END: usize = CALL_BASIS_END + U32;
 
-pub const CALL_LENGTH: usize = CALL_WEIGHT_END as usize;
+pub const CALL_LENGTH: usize = CALL_WEIGHT_END;
 
 // ── The answer ──────────────────────────────────────────────────────────────────────────────────
 
-pub const ANSWER_NUMBER_END: u64 = U8;
+pub const ANSWER_NUMBER_END: usize = U8;
 
-pub const ANSWER_PHASE_END: u64 = ANSWER_NUMBER_END + U8;
+pub const ANSWER_PHASE_END: usize = ANSWER_NUMBER_END + U8;
 
-pub const ENTRY_COUNT_END: u64 = ANSWER_PHASE_END + U16;
+pub const ENTRY_COUNT_END: usize = ANSWER_PHASE_END + U16;
 
-pub const ENTRY_OFFSET_END: u64 = ENTRY_COUNT_END + U32;
+pub const ENTRY_OFFSET_END: usize = ENTRY_COUNT_END + U32;
 
-pub const ANSWER_TOTAL_END: u64 = ENTRY_OFFSET_END + U64;
+pub const ANSWER_TOTAL_END: usize = ENTRY_OFFSET_END + U64;
 
-pub const ANSWER_HEADER: u64 = ANSWER_TOTAL_END;
+pub const ANSWER_HEADER: usize = ANSWER_TOTAL_END;
 
-const LOT_END: u64 = U8;
+const LOT_END: usize = U8;
 
-const OUTCOME_END: u64 = LOT_END + U8;
+const OUTCOME_END: usize = LOT_END + U8;
 
-const FROM_END: u64 = OUTCOME_END + U8;
+const FROM_END: usize = OUTCOME_END + U8;
 
-const TO_END: u64 = FROM_END + U8;
+const TO_END: usize = FROM_END + U8;
 
-const NUMBER_END: u64 = TO_END + U32;
+const NUMBER_END: usize = TO_END + U32;
 
-pub const ENTRY_LENGTH: u64 = NUMBER_END;
+const ENTRY_LENGTH: usize = NUMBER_END;
 
-pub const ANSWER_LENGTH: usize = (ANSWER_HEADER + RECEIPTS * ENTRY_LENGTH) as usize;
+pub const ANSWER_LENGTH: usize = ANSWER_HEADER + RECEIPTS as usize * ENTRY_LENGTH;
 
 // ── The table of calls ──────────────────────────────────────────────────────────────────────────
 
@@ -167,15 +168,15 @@ pub const MOST_CALLS: u64 = 32;
 // The runs also draw tables with too many calls. Their buffer for answers has room for these too, so that their number alone is wrong.
 pub const SPARE_CALLS: u64 = 4;
 
-pub const ANSWERS_LENGTH: usize = ((MOST_CALLS + SPARE_CALLS) as usize) * ANSWER_LENGTH
+pub const ANSWERS_LENGTH: usize = (MOST_CALLS + SPARE_CALLS) as usize * ANSWER_LENGTH
     + SPARE_LENGTH;
 
 // ── The figures ─────────────────────────────────────────────────────────────────────────────────
 
 // A shortfall for each account.
-const SHORTFALL_END: u64 = U64;
+const SHORTFALL_END: usize = U64;
 
-pub const FIGURES_LENGTH: usize = (ACCOUNTS * SHORTFALL_END) as usize;
+pub const FIGURES_LENGTH: usize = ACCOUNTS as usize * SHORTFALL_END;
 
 // ── Columns ─────────────────────────────────────────────────────────────────────────────────────
 
@@ -266,7 +267,7 @@ pub const COLUMNS: u64 = WEALTH + 1;
 const PLACED_COLUMNS: usize = WEALTH as usize;
 
 // Where the field of each of these columns ends in its record.
-const ENDS: [u64; PLACED_COLUMNS] = [
+const ENDS: [usize; PLACED_COLUMNS] = [
     ACCOUNT_COUNT_END,
     RECEIPT_COUNT_END,
     CONTRACT_COUNT_END,
@@ -308,8 +309,8 @@ const ENDS: [u64; PLACED_COLUMNS] = [
 #[derive(Clone, Copy)]
 struct Table {
     first: u64,
-    start: u64,
-    length: u64,
+    start: usize,
+    length: usize,
     records: u64,
 }
 
@@ -360,64 +361,38 @@ const FIGURE_TABLE: Table = Table {
 
 // The table that has the column.
 fn table_of(column: u64) -> Table {
-    if column < FREE {
-        return HEADER_TABLE;
+    match column {
+        ..FREE => HEADER_TABLE,
+        ..ASK => ACCOUNT_TABLE,
+        ..OWNER => CONTRACT_TABLE,
+        ..RECEIPT_COLUMNS_END => RECEIPT_TABLE,
+        ..ENTRY_COLUMNS_END => ENTRY_TABLE,
+        _ => FIGURE_TABLE,
     }
-    if column < ASK {
-        return ACCOUNT_TABLE;
-    }
-    if column < OWNER {
-        return CONTRACT_TABLE;
-    }
-    if column < RECEIPT_COLUMNS_END {
-        return RECEIPT_TABLE;
-    }
-    if column < ENTRY_COLUMNS_END {
-        return ENTRY_TABLE;
-    }
-    FIGURE_TABLE
 }
 
 // ── Places ──────────────────────────────────────────────────────────────────────────────────────
 
 pub fn records_of(column: u64) -> u64 {
-    let table = table_of(column);
-    table.records
+    table_of(column).records
 }
 
-pub fn length_of(column: u64) -> u64 {
-    let table = table_of(column);
-    table.length
+fn end_in_record(column: u64) -> usize {
+    ENDS.get(column as usize).map_or(0, |end| *end)
 }
 
-// Where the record of a row starts.
-fn record_start(column: u64, row: u64) -> u64 {
-    let table = table_of(column);
-    plus(table.start, product(minus(row, 1), table.length))
-}
-
-fn end_in_record(column: u64) -> u64 {
-    let ends = ENDS;
-    let k = column as usize;
-    if k < PLACED_COLUMNS {
-        return ends[k];
-    }
-    0
-}
-
-fn start_in_record(column: u64) -> u64 {
-    let table = table_of(column);
-    if column == table.first {
+fn start_in_record(column: u64, first: u64) -> usize {
+    if column == first {
         return 0;
     }
-    end_in_record(minus(column, 1))
+    end_in_record(column.wrapping_sub(1))
 }
 
-// The first byte of a field, and the byte after its last.
-pub fn start_of(column: u64, row: u64) -> u64 {
-    plus(record_start(column, row), start_in_record(column))
-}
-
-pub fn end_of(column: u64, row: u64) -> u64 {
-    plus(record_start(column, row), end_in_record(column))
+// The bytes of a field in the record of a row.
+pub fn place_of(column: u64, row: u64) -> Range<usize> {
+    let table = table_of(column);
+    let before = product(row.wrapping_sub(1), table.length as u64) as usize;
+    let record = table.start.wrapping_add(before);
+    let start = record.wrapping_add(start_in_record(column, table.first));
+    start..record.wrapping_add(end_in_record(column))
 }

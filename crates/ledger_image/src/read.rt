@@ -1,17 +1,13 @@
 // An image read into the book.
+use crate::judge::is_valid;
 use ledger_book::{
-    ACCOUNTS, Book, FREE, FROZEN, IMAGE_COLUMNS_END, WEALTH, cell, end_of, field, length_of, minus,
-    plus, product, records_of, set_cell, start_of,
+    ACCOUNTS, Book, Cells, FREE, FROZEN, IMAGE_COLUMNS_END, IMAGE_LENGTH, WEALTH, field, place_of,
+    records_of,
 };
 
 fn read_column(book: &mut Book, image: &[u8], column: u64) {
-    let start = start_of(column, 1);
-    let end = end_of(column, 1);
-    let length = length_of(column);
-    for row in 1..plus(records_of(column), 1) {
-        let before = product(minus(row, 1), length);
-        let value = field(image, plus(start, before), plus(end, before));
-        set_cell(book, column, row, value);
+    for row in 1..=records_of(column) {
+        book.set(column, row, field(image, place_of(column, row)));
     }
 }
 
@@ -22,13 +18,27 @@ fn read_columns(book: &mut Book, image: &[u8]) {
 }
 
 fn count_wealth(book: &mut Book) {
-    for account in 1..ACCOUNTS + 1 {
-        let wealth = plus(cell(book, FREE, account), cell(book, FROZEN, account));
-        set_cell(book, WEALTH, account, wealth);
+    for account in 1..=ACCOUNTS {
+        let free = book.cell(FREE, account);
+        book.set(
+            WEALTH,
+            account,
+            free.wrapping_add(book.cell(FROZEN, account)),
+        );
     }
 }
 
-pub fn read_image(book: &mut Book, image: &[u8]) {
-    read_columns(book, image);
-    count_wealth(book);
+// The book that holds the image; None where the bytes are no valid image.
+pub fn read_image(image: &[u8]) -> Option<Book> {
+    if image.len() != IMAGE_LENGTH {
+        return None;
+    }
+    let mut book = Book::empty();
+    read_columns(&mut book, image);
+    count_wealth(&mut book);
+    if is_valid(&mut book) {
+        Some(book)
+    } else {
+        None
+    }
 }

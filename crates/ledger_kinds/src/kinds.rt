@@ -1,117 +1,107 @@
 // The kinds of calls. Freeing a deposit is no act of its own: a lot that has left its state holds nothing any more.
 use crate::closes::{day_close, end, morning_close};
+use crate::parties::{Parties, from_owner};
 use ledger_book::{
-    ASK, BASIS, BUYER, Book, CONFIRMED, CONTRACT, Call, DAY, DAYS, DUE, OWNER, PAID, PENDING,
-    PHASE, PREMIUM, PRICE, ROWS, SELLER, STATE, TOTAL, WEALTH, WEIGHT, ZONE, ask_of, cell,
-    first_payment, full_of, lower, note, part_payment, pass, plus, raise, set_cell,
+    ASK, BASIS, BUYER, Book, CONFIRMED, CONTRACT, Call, Cells, DAY, DAYS, DUE, Kind, OWNER,
+    Outcome, PAID, PENDING, PREMIUM, PRICE, Phase, RECEIPTS, SELLER, STATE, State, TOTAL, WEALTH,
+    WEIGHT, ZONE, first_payment, part_payment,
 };
 
 // ── Money and receipts ──────────────────────────────────────────────────────────────────────────
 
-fn pay_in(book: &mut Book, c: Call) {
-    raise(book, WEALTH, c.account, c.amount);
-    raise(book, TOTAL, ZONE, c.amount);
+fn pay_in(book: &mut Book, call: &Call) {
+    book.raise(WEALTH, call.account, call.amount);
+    book.raise(TOTAL, ZONE, call.amount);
 }
 
-fn take_out(book: &mut Book, c: Call) {
-    lower(book, WEALTH, c.account, c.amount);
-    lower(book, TOTAL, ZONE, c.amount);
+fn take_out(book: &mut Book, call: &Call) {
+    book.lower(WEALTH, call.account, call.amount);
+    book.lower(TOTAL, ZONE, call.amount);
 }
 
-fn register(book: &mut Book, c: Call) {
-    set_cell(book, OWNER, c.receipt, c.account);
-    set_cell(book, WEIGHT, c.receipt, c.weight);
-    set_cell(book, PREMIUM, c.receipt, c.basis);
-    note(book, c.receipt, 1, c.account, 0, 0);
+fn register(book: &mut Book, call: &Call) {
+    book.set(OWNER, call.receipt, call.account);
+    book.set(WEIGHT, call.receipt, call.weight);
+    book.set(PREMIUM, call.receipt, call.basis);
+    book.note(from_owner(call.receipt, Outcome::Registered, call.account));
 }
 
-fn list(book: &mut Book, c: Call) {
-    set_cell(book, STATE, c.receipt, 1);
-    set_cell(book, SELLER, c.receipt, c.account);
-    set_cell(book, CONTRACT, c.receipt, c.contract);
-    set_cell(book, DAYS, c.receipt, c.days);
-    set_cell(book, BASIS, c.receipt, c.basis);
-    note(book, c.receipt, 2, c.account, 0, 0);
+fn list(book: &mut Book, call: &Call) {
+    book.set(STATE, call.receipt, State::Listed as u64);
+    book.set(SELLER, call.receipt, call.account);
+    book.set(CONTRACT, call.receipt, call.contract);
+    book.set(DAYS, call.receipt, call.days);
+    book.set(BASIS, call.receipt, call.basis);
+    book.note(from_owner(call.receipt, Outcome::Listed, call.account));
 }
 
-fn withdraw_listing(book: &mut Book, c: Call) {
-    end(book, c.receipt);
-    note(book, c.receipt, 3, c.account, 0, 0);
+fn withdraw_listing(book: &mut Book, call: &Call) {
+    end(book, call.receipt);
+    book.note(from_owner(call.receipt, Outcome::ListingEnded, call.account));
 }
 
 // ── Bids and strikes ────────────────────────────────────────────────────────────────────────────
 
 // D days on, but never the same day once that day's morning close is over (01 Calls 26).
 fn due_day(book: &Book, lot: u64) -> u64 {
-    let day = cell(book, DAY, ZONE);
-    let days = cell(book, DAYS, lot);
-    if (cell(book, PHASE, ZONE) == 1) & (days == 0) {
-        return plus(day, 1);
-    }
-    plus(day, days)
-}
-
-// An entry from a lot's buyer to its seller (01 Answers 7).
-fn note_from_buyer(book: &mut Book, lot: u64, outcome: u64, number: u64) {
-    let buyer = cell(book, BUYER, lot);
-    let seller = cell(book, SELLER, lot);
-    note(book, lot, outcome, buyer, seller, number);
-}
-
-fn note_from_seller(book: &mut Book, lot: u64, outcome: u64, number: u64) {
-    let buyer = cell(book, BUYER, lot);
-    let seller = cell(book, SELLER, lot);
-    note(book, lot, outcome, seller, buyer, number);
+    let days = book.cell(DAYS, lot);
+    let least = match book.phase() {
+        Phase::Morning => 0,
+        Phase::Afternoon => 1,
+    };
+    book.cell(DAY, ZONE).wrapping_add(days.max(least))
 }
 
 // Strikes the bid that a lot has, at its price.
 fn strike(book: &mut Book, lot: u64) {
-    let due = due_day(book, lot);
-    let price = cell(book, PRICE, lot);
-    set_cell(book, STATE, lot, 3);
-    set_cell(book, DUE, lot, due);
-    note_from_buyer(book, lot, 6, price);
+    book.set(STATE, lot, State::Struck as u64);
+    book.set(DUE, lot, due_day(book, lot));
+    let price = book.cell(PRICE, lot);
+    book.note(Parties::of(book, lot).from_buyer(Outcome::Struck, price));
 }
 
 // A bid takes the place of the one that stands, and stands itself.
 fn bid(book: &mut Book, lot: u64, buyer: u64, price: u64) {
-    set_cell(book, STATE, lot, 2);
-    set_cell(book, BUYER, lot, buyer);
-    set_cell(book, PRICE, lot, price);
-    note_from_buyer(book, lot, 4, price);
+    book.set(STATE, lot, State::BidStands as u64);
+    book.set(BUYER, lot, buyer);
+    book.set(PRICE, lot, price);
+    book.note(Parties::of(book, lot).from_buyer(Outcome::BidStands, price));
 }
 
 // An ask at or below the price strikes the bid at once (01 Calls 9).
-fn limit_bid(book: &mut Book, c: Call) {
-    let ask = ask_of(book, c.receipt);
-    bid(book, c.receipt, c.account, c.amount);
-    if (ask != 0) & (ask <= c.amount) {
-        strike(book, c.receipt);
+fn limit_bid(book: &mut Book, call: &Call) {
+    let ask = book.ask_of(call.receipt);
+    bid(book, call.receipt, call.account, call.amount);
+    if ask != 0 && ask <= call.amount {
+        strike(book, call.receipt);
     }
 }
 
-fn market_bid(book: &mut Book, c: Call) {
-    let ask = ask_of(book, c.receipt);
-    bid(book, c.receipt, c.account, ask);
-    strike(book, c.receipt);
+fn market_bid(book: &mut Book, call: &Call) {
+    let ask = book.ask_of(call.receipt);
+    bid(book, call.receipt, call.account, ask);
+    strike(book, call.receipt);
 }
 
-fn withdraw_bid(book: &mut Book, c: Call) {
-    note_from_buyer(book, c.receipt, 5, 0);
-    set_cell(book, STATE, c.receipt, 1);
-    set_cell(book, BUYER, c.receipt, 0);
-    set_cell(book, PRICE, c.receipt, 0);
+fn withdraw_bid(book: &mut Book, call: &Call) {
+    let parties = Parties::of(book, call.receipt);
+    book.note(parties.from_buyer(Outcome::BidWithdrawn, 0));
+    book.set(STATE, call.receipt, State::Listed as u64);
+    book.set(BUYER, call.receipt, 0);
+    book.set(PRICE, call.receipt, 0);
 }
 
 // Whether the contract's new ask strikes the bid that stands on the lot (01 Calls 12).
 fn is_met(book: &Book, lot: u64, contract: u64, ask: u64) -> bool {
-    let stands = (cell(book, STATE, lot) == 2) & (cell(book, CONTRACT, lot) == contract);
-    stands & (ask != 0) & (cell(book, PRICE, lot) >= ask)
+    book.state(lot) == Some(State::BidStands)
+        && book.cell(CONTRACT, lot) == contract
+        && ask != 0
+        && ask <= book.cell(PRICE, lot)
 }
 
 fn quote(book: &mut Book, contract: u64, ask: u64) {
-    set_cell(book, ASK, contract, ask);
-    for lot in 1..ROWS {
+    book.set(ASK, contract, ask);
+    for lot in 1..=RECEIPTS {
         if is_met(book, lot, contract, ask) {
             strike(book, lot);
         }
@@ -120,64 +110,62 @@ fn quote(book: &mut Book, contract: u64, ask: u64) {
 
 // ── Delivery and payment ────────────────────────────────────────────────────────────────────────
 
-fn lodge(book: &mut Book, c: Call) {
-    set_cell(book, STATE, c.receipt, 4);
-    note_from_seller(book, c.receipt, 7, 0);
+fn lodge(book: &mut Book, call: &Call) {
+    book.set(STATE, call.receipt, State::Lodged as u64);
+    book.note(Parties::of(book, call.receipt).from_seller(Outcome::Lodged, 0));
 }
 
 // A payment from a lot's buyer to its seller, with its entry.
-fn pay(book: &mut Book, lot: u64, outcome: u64, fen: u64) {
-    let buyer = cell(book, BUYER, lot);
-    let seller = cell(book, SELLER, lot);
-    pass(book, buyer, seller, fen);
-    note(book, lot, outcome, buyer, seller, fen);
+fn pay(book: &mut Book, lot: u64, outcome: Outcome, fen: u64) {
+    let parties = Parties::of(book, lot);
+    book.pass(parties.buyer, parties.seller, fen);
+    book.note(parties.from_buyer(outcome, fen));
 }
 
-fn pay_first(book: &mut Book, c: Call) {
-    let first = first_payment(full_of(book, c.receipt));
-    pay(book, c.receipt, 9, first);
-    set_cell(book, STATE, c.receipt, 6);
+fn pay_first(book: &mut Book, call: &Call) {
+    let first = first_payment(book.full_payment(call.receipt));
+    pay(book, call.receipt, Outcome::FirstPaid, first);
+    book.set(STATE, call.receipt, State::FirstPaid as u64);
 }
 
-fn invoice(book: &mut Book, c: Call) {
-    set_cell(book, PENDING, c.receipt, c.amount);
-    note_from_seller(book, c.receipt, 10, c.amount);
+fn invoice(book: &mut Book, call: &Call) {
+    book.set(PENDING, call.receipt, call.amount);
+    book.note(Parties::of(book, call.receipt).from_seller(Outcome::Invoiced, call.amount));
 }
 
 // The invoice is paid its part; with the last one the lot ends (01 Calls 24, 02 3/12).
-fn confirm(book: &mut Book, c: Call) {
-    let lot = c.receipt;
-    let full = full_of(book, lot);
-    let pending = cell(book, PENDING, lot);
-    let fen = part_payment(full, cell(book, CONFIRMED, lot), pending);
-    pay(book, lot, 11, fen);
-    raise(book, PAID, lot, fen);
-    raise(book, CONFIRMED, lot, pending);
-    set_cell(book, PENDING, lot, 0);
-    if cell(book, CONFIRMED, lot) == full {
+fn confirm(book: &mut Book, call: &Call) {
+    let lot = call.receipt;
+    let full = book.full_payment(lot);
+    let pending = book.cell(PENDING, lot);
+    let fen = part_payment(full, book.cell(CONFIRMED, lot), pending);
+    pay(book, lot, Outcome::PartPaid, fen);
+    book.raise(PAID, lot, fen);
+    book.raise(CONFIRMED, lot, pending);
+    book.set(PENDING, lot, 0);
+    if book.cell(CONFIRMED, lot) == full {
         end(book, lot);
     }
 }
 
 // ── All kinds ───────────────────────────────────────────────────────────────────────────────────
 
-pub fn perform(book: &mut Book, c: Call) {
-    let kind = c.kind;
-    match kind {
-        1 => pay_in(book, c),
-        2 => take_out(book, c),
-        3 => register(book, c),
-        4 => list(book, c),
-        5 => withdraw_listing(book, c),
-        6 => limit_bid(book, c),
-        7 => market_bid(book, c),
-        8 => withdraw_bid(book, c),
-        9 => quote(book, c.contract, c.amount),
-        10 => lodge(book, c),
-        11 => morning_close(book),
-        12 => pay_first(book, c),
-        13 => invoice(book, c),
-        14 => confirm(book, c),
-        _ => day_close(book),
+pub fn perform(book: &mut Book, call: &Call) {
+    match call.kind {
+        Kind::PayIn => pay_in(book, call),
+        Kind::TakeOut => take_out(book, call),
+        Kind::Register => register(book, call),
+        Kind::List => list(book, call),
+        Kind::WithdrawListing => withdraw_listing(book, call),
+        Kind::LimitBid => limit_bid(book, call),
+        Kind::MarketBid => market_bid(book, call),
+        Kind::WithdrawBid => withdraw_bid(book, call),
+        Kind::Quote => quote(book, call.contract, call.amount),
+        Kind::Lodge => lodge(book, call),
+        Kind::MorningClose => morning_close(book),
+        Kind::FirstPayment => pay_first(book, call),
+        Kind::Invoice => invoice(book, call),
+        Kind::Confirm => confirm(book, call),
+        Kind::DayClose => day_close(book),
     }
 }

@@ -1,64 +1,52 @@
 // Bids and quotes (01 Calls 8 to 12, 02 2/12).
-use crate::lots::{is_buyer, is_open, is_seller, number_at_lot};
+use crate::lots::{at_lot, is_buyer, is_open, is_seller};
+use crate::refuse_unless;
 use ledger_book::{
-    BASIS, Book, Call, DEPOSIT, PREMIUM, PRICE, STATE, ask_of, cell, free, hold, is_contract,
-    is_price, plus, unit_price,
+    BASIS, Book, Call, Cells, DEPOSIT, PREMIUM, PRICE, Refusal, State, is_contract, is_price,
+    unit_price,
 };
 
-// 11. What the caller's own standing bid holds counts as free.
-fn lacks_deposit(book: &Book, c: Call) -> bool {
-    let mut money = free(book, c.account);
-    if is_buyer(book, c) {
-        money = plus(money, hold(book, c.receipt));
+// What the caller's own standing bid holds counts as free.
+fn money_for_bid(book: &Book, call: &Call) -> u64 {
+    let free = book.free(call.account);
+    if is_buyer(book, call) {
+        free.wrapping_add(book.held(call.receipt))
+    } else {
+        free
     }
-    money < DEPOSIT
 }
 
-// 10 and 11 of a bid at this price.
-fn number_of_bid(book: &Book, c: Call, price: u64) -> u64 {
-    let basis = cell(book, BASIS, c.receipt);
-    let premium = cell(book, PREMIUM, c.receipt);
-    if unit_price(price, basis, premium) < 1 {
-        return 10;
-    }
-    if lacks_deposit(book, c) {
-        return 11;
-    }
-    0
+// There is something to pay at this price, and the deposit for it.
+fn at_price(book: &Book, call: &Call, price: u64) -> Result<(), Refusal> {
+    let basis = book.cell(BASIS, call.receipt);
+    let premium = book.cell(PREMIUM, call.receipt);
+    let unit = unit_price(price, basis, premium);
+    refuse_unless(unit >= 1, Refusal::NothingToPay)?;
+    refuse_unless(money_for_bid(book, call) >= DEPOSIT, Refusal::NoMoney)
 }
 
-// 8: no more than the standing bid.
-pub fn limit_bid(book: &Book, c: Call) -> u64 {
-    if !is_price(c.amount) {
-        return 4;
-    }
-    let number = number_at_lot(c, is_open(book, c.receipt), !is_seller(book, c));
-    if number != 0 {
-        return number;
-    }
-    if (cell(book, STATE, c.receipt) == 2) & (c.amount <= cell(book, PRICE, c.receipt)) {
-        return 8;
-    }
-    number_of_bid(book, c, c.amount)
+fn on_open_lot(book: &Book, call: &Call) -> Result<(), Refusal> {
+    at_lot(call, is_open(book, call.receipt), !is_seller(book, call))
 }
 
-// 9: nobody sells.
-pub fn market_bid(book: &Book, c: Call) -> u64 {
-    let ask = ask_of(book, c.receipt);
-    let number = number_at_lot(c, is_open(book, c.receipt), !is_seller(book, c));
-    if number != 0 {
-        return number;
-    }
-    if ask == 0 {
-        return 9;
-    }
-    number_of_bid(book, c, ask)
+pub fn limit_bid(book: &Book, call: &Call) -> Result<(), Refusal> {
+    refuse_unless(is_price(call.amount), Refusal::OutOfRange)?;
+    on_open_lot(book, call)?;
+    let bid_stands = book.state(call.receipt) == Some(State::BidStands);
+    let above = call.amount > book.cell(PRICE, call.receipt);
+    refuse_unless(!bid_stands || above, Refusal::NotAbove)?;
+    at_price(book, call, call.amount)
+}
+
+pub fn market_bid(book: &Book, call: &Call) -> Result<(), Refusal> {
+    let ask = book.ask_of(call.receipt);
+    on_open_lot(book, call)?;
+    refuse_unless(ask != 0, Refusal::NoAsk)?;
+    at_price(book, call, ask)
 }
 
 // 0 takes the ask away.
-pub fn quote(c: Call) -> u64 {
-    if is_contract(c.contract) & ((c.amount == 0) | is_price(c.amount)) {
-        return 0;
-    }
-    4
+pub fn quote(call: &Call) -> Result<(), Refusal> {
+    let is_ask = call.amount == 0 || is_price(call.amount);
+    refuse_unless(is_contract(call.contract) && is_ask, Refusal::OutOfRange)
 }

@@ -1,4 +1,4 @@
-// The number that the second ledger returns for a call: each kind tests, in rising order, the numbers that can apply to it.
+// Why the second ledger refuses a call: each kind tests, in rising order of their numbers, the refusals that can apply to it.
 #![tactic(auto)]
 
 mod bids;
@@ -6,49 +6,43 @@ mod lots;
 mod money;
 mod unused;
 
-use ledger_book::{Book, Call, DAY, LAST_DAY, PHASE, ZONE, cell};
+use ledger_book::{Book, Call, Cells, DAY, Kind, LAST_DAY, Phase, Refusal, State, ZONE};
 
-// 5, of a morning close: it is afternoon already.
-fn morning_close(book: &Book) -> u64 {
-    if cell(book, PHASE, ZONE) == 1 {
-        return 5;
-    }
-    0
+fn refuse_unless(holds: bool, refusal: Refusal) -> Result<(), Refusal> {
+    if holds { Ok(()) } else { Err(refusal) }
 }
 
-// 5, of a day close: it is still morning, or no day follows.
-fn day_close(book: &Book) -> u64 {
-    if (cell(book, PHASE, ZONE) == 0) | (cell(book, DAY, ZONE) == LAST_DAY) {
-        return 5;
-    }
-    0
+fn morning_close(book: &Book) -> Result<(), Refusal> {
+    refuse_unless(book.phase() == Phase::Morning, Refusal::WrongPhase)
 }
 
-fn number_of_kind(book: &Book, c: Call) -> u64 {
-    let kind = c.kind;
-    match kind {
-        1 => money::pay_in(book, c),
-        2 => money::take_out(book, c),
-        3 => lots::register(book, c),
-        4 => lots::list(book, c),
-        5 => lots::withdraw_listing(book, c),
-        6 => bids::limit_bid(book, c),
-        7 => bids::market_bid(book, c),
-        8 => lots::withdraw_bid(book, c),
-        9 => bids::quote(c),
-        10 => lots::by_seller(book, c, 3),
-        11 => morning_close(book),
-        12 => lots::by_seller(book, c, 5),
-        13 => lots::invoice(book, c),
-        14 => lots::confirm(book, c),
-        _ => day_close(book),
-    }
+// Also where no day follows.
+fn day_close(book: &Book) -> Result<(), Refusal> {
+    let day_follows = book.cell(DAY, ZONE) != LAST_DAY;
+    refuse_unless(
+        book.phase() == Phase::Afternoon && day_follows,
+        Refusal::WrongPhase,
+    )
 }
 
-// The lowest number from 3 on that applies, 0 where none does (01 Answers 26).
-pub fn number(book: &Book, c: Call) -> u64 {
-    if (unused::unused(c) | c.zeros) != 0 {
-        return 3;
+// The first refusal from a bad call on that applies (01 Answers 26).
+pub fn check(book: &Book, call: &Call) -> Result<(), Refusal> {
+    refuse_unless(unused::unused(call) == 0, Refusal::BadCall)?;
+    match call.kind {
+        Kind::PayIn => money::pay_in(book, call),
+        Kind::TakeOut => money::take_out(book, call),
+        Kind::Register => lots::register(book, call),
+        Kind::List => lots::list(book, call),
+        Kind::WithdrawListing => lots::withdraw_listing(book, call),
+        Kind::LimitBid => bids::limit_bid(book, call),
+        Kind::MarketBid => bids::market_bid(book, call),
+        Kind::WithdrawBid => lots::withdraw_bid(book, call),
+        Kind::Quote => bids::quote(call),
+        Kind::Lodge => lots::by_seller(book, call, State::Struck),
+        Kind::MorningClose => morning_close(book),
+        Kind::FirstPayment => lots::by_seller(book, call, State::Settled),
+        Kind::Invoice => lots::invoice(book, call),
+        Kind::Confirm => lots::confirm(book, call),
+        Kind::DayClose => day_close(book),
     }
-    number_of_kind(book, c)
 }

@@ -1,94 +1,86 @@
 // Calls that take a receipt or its lot one step on, by a party to it.
+use crate::refuse_unless;
 use ledger_book::{
-    BUYER, Book, CONFIRMED, Call, MOST_DAYS, OWNER, PENDING, SELLER, STATE, cell, full_of,
-    is_account, is_amount, is_basis, is_contract, is_premium, is_receipt, is_weight, minus, within,
+    BUYER, Book, CONFIRMED, Call, Cells, MOST_DAYS, OWNER, PENDING, Refusal, SELLER, State,
+    is_account, is_amount, is_basis, is_contract, is_premium, is_receipt, is_weight,
 };
 
-// Numbers 4, 6 and 7 of a kind that has an account and a receipt.
-pub fn number_at_lot(c: Call, in_state: bool, by_party: bool) -> u64 {
-    if !(is_account(c.account) & is_receipt(c.receipt)) {
-        return 4;
-    }
-    if !in_state {
-        return 6;
-    }
-    if !by_party {
-        return 7;
-    }
-    0
+// The tests of a kind that has an account and a receipt.
+pub fn at_lot(call: &Call, in_state: bool, by_party: bool) -> Result<(), Refusal> {
+    let known = is_account(call.account) && is_receipt(call.receipt);
+    refuse_unless(known, Refusal::OutOfRange)?;
+    refuse_unless(in_state, Refusal::WrongState)?;
+    refuse_unless(by_party, Refusal::WrongParty)
 }
 
 // ── Receipts ────────────────────────────────────────────────────────────────────────────────────
 
 // Anyone may register a receipt that nobody owns, with a premium in the basis' place (01 Calls 5, 02 2/12).
-pub fn register(book: &Book, c: Call) -> u64 {
-    if !(is_premium(c.basis) & is_weight(c.weight)) {
-        return 4;
-    }
-    number_at_lot(c, cell(book, OWNER, c.receipt) == 0, true)
+pub fn register(book: &Book, call: &Call) -> Result<(), Refusal> {
+    let in_range = is_premium(call.basis) && is_weight(call.weight);
+    refuse_unless(in_range, Refusal::OutOfRange)?;
+    at_lot(call, book.cell(OWNER, call.receipt) == 0, true)
 }
 
 // The receipt is registered and idle, the caller owns it (01 Calls 6).
-pub fn list(book: &Book, c: Call) -> u64 {
-    let owner = cell(book, OWNER, c.receipt);
-    if !(is_contract(c.contract) & (c.days <= MOST_DAYS) & is_basis(c.basis)) {
-        return 4;
-    }
-    number_at_lot(
-        c,
-        (cell(book, STATE, c.receipt) == 0) & (owner != 0),
-        c.account == owner,
-    )
+pub fn list(book: &Book, call: &Call) -> Result<(), Refusal> {
+    let in_range = is_contract(call.contract) && call.days <= MOST_DAYS && is_basis(call.basis);
+    refuse_unless(in_range, Refusal::OutOfRange)?;
+    let owner = book.cell(OWNER, call.receipt);
+    let idle = book.state(call.receipt) == Some(State::Idle);
+    at_lot(call, idle && owner != 0, call.account == owner)
 }
 
 // ── Parties ─────────────────────────────────────────────────────────────────────────────────────
 
-pub fn is_seller(book: &Book, c: Call) -> bool {
-    c.account == cell(book, SELLER, c.receipt)
+pub fn is_seller(book: &Book, call: &Call) -> bool {
+    call.account == book.cell(SELLER, call.receipt)
 }
 
-pub fn is_buyer(book: &Book, c: Call) -> bool {
-    c.account == cell(book, BUYER, c.receipt)
+pub fn is_buyer(book: &Book, call: &Call) -> bool {
+    call.account == book.cell(BUYER, call.receipt)
 }
 
-pub fn by_seller(book: &Book, c: Call, state: u64) -> u64 {
-    number_at_lot(c, cell(book, STATE, c.receipt) == state, is_seller(book, c))
+pub fn by_seller(book: &Book, call: &Call, state: State) -> Result<(), Refusal> {
+    let in_state = book.state(call.receipt) == Some(state);
+    at_lot(call, in_state, is_seller(book, call))
 }
 
 // Listed, with or without a bid.
 pub fn is_open(book: &Book, lot: u64) -> bool {
-    within(cell(book, STATE, lot), 1, 2)
+    matches!(book.state(lot), Some(State::Listed | State::BidStands))
 }
 
-pub fn withdraw_listing(book: &Book, c: Call) -> u64 {
-    number_at_lot(c, is_open(book, c.receipt), is_seller(book, c))
+pub fn withdraw_listing(book: &Book, call: &Call) -> Result<(), Refusal> {
+    at_lot(call, is_open(book, call.receipt), is_seller(book, call))
 }
 
-pub fn withdraw_bid(book: &Book, c: Call) -> u64 {
-    number_at_lot(c, cell(book, STATE, c.receipt) == 2, is_buyer(book, c))
+pub fn withdraw_bid(book: &Book, call: &Call) -> Result<(), Refusal> {
+    let bid_stands = book.state(call.receipt) == Some(State::BidStands);
+    at_lot(call, bid_stands, is_buyer(book, call))
 }
 
 // ── Invoices ────────────────────────────────────────────────────────────────────────────────────
 
-// 6 also while an invoice waits; 13: more than is left to invoice (01 Answers 17 and 24).
-pub fn invoice(book: &Book, c: Call) -> u64 {
-    let lot = c.receipt;
-    if !is_amount(c.amount) {
-        return 4;
-    }
-    let ready = (cell(book, STATE, lot) == 6) & (cell(book, PENDING, lot) == 0);
-    let number = number_at_lot(c, ready, is_seller(book, c));
-    if number != 0 {
-        return number;
-    }
-    if c.amount > minus(full_of(book, lot), cell(book, CONFIRMED, lot)) {
-        return 13;
-    }
-    0
+fn is_first_paid(book: &Book, lot: u64) -> bool {
+    book.state(lot) == Some(State::FirstPaid)
 }
 
-// 6 also while no invoice waits.
-pub fn confirm(book: &Book, c: Call) -> u64 {
-    let pending = (cell(book, STATE, c.receipt) == 6) & (cell(book, PENDING, c.receipt) != 0);
-    number_at_lot(c, pending, is_buyer(book, c))
+// The state is wrong also while an invoice waits; no more is invoiced than is left (01 Answers 17 and 24).
+pub fn invoice(book: &Book, call: &Call) -> Result<(), Refusal> {
+    let lot = call.receipt;
+    refuse_unless(is_amount(call.amount), Refusal::OutOfRange)?;
+    let ready = is_first_paid(book, lot) && book.cell(PENDING, lot) == 0;
+    at_lot(call, ready, is_seller(book, call))?;
+    let left = book
+        .full_payment(lot)
+        .wrapping_sub(book.cell(CONFIRMED, lot));
+    refuse_unless(call.amount <= left, Refusal::OverInvoice)
+}
+
+// The state is wrong also while no invoice waits.
+pub fn confirm(book: &Book, call: &Call) -> Result<(), Refusal> {
+    let lot = call.receipt;
+    let waits = is_first_paid(book, lot) && book.cell(PENDING, lot) != 0;
+    at_lot(call, waits, is_buyer(book, call))
 }

@@ -1,23 +1,21 @@
 // Pay-ins and take-outs (01 Calls 4).
-use ledger_book::{Book, Call, MOST_TOTAL, TOTAL, ZONE, cell, free, is_account, is_amount, plus};
+use crate::refuse_unless;
+use ledger_book::{Book, Call, Cells, MOST_TOTAL, Refusal, TOTAL, ZONE, is_account, is_amount};
 
-// 12: the zone would hold more than it may.
-pub fn pay_in(book: &Book, c: Call) -> u64 {
-    if !(is_account(c.account) & is_amount(c.amount)) {
-        return 4;
-    }
-    if plus(cell(book, TOTAL, ZONE), c.amount) > MOST_TOTAL {
-        return 12;
-    }
-    0
+fn in_range(call: &Call) -> Result<(), Refusal> {
+    refuse_unless(
+        is_account(call.account) && is_amount(call.amount),
+        Refusal::OutOfRange,
+    )
 }
 
-pub fn take_out(book: &Book, c: Call) -> u64 {
-    if !(is_account(c.account) & is_amount(c.amount)) {
-        return 4;
-    }
-    if free(book, c.account) < c.amount {
-        return 11;
-    }
-    0
+pub fn pay_in(book: &Book, call: &Call) -> Result<(), Refusal> {
+    in_range(call)?;
+    let total = book.cell(TOTAL, ZONE).wrapping_add(call.amount);
+    refuse_unless(total <= MOST_TOTAL, Refusal::OverLimit)
+}
+
+pub fn take_out(book: &Book, call: &Call) -> Result<(), Refusal> {
+    in_range(call)?;
+    refuse_unless(book.free(call.account) >= call.amount, Refusal::NoMoney)
 }
