@@ -27,11 +27,7 @@ impl Altered<'_> {
         let has_price = matches!(
             self.altered.state(lot),
             Some(
-                State::BidStands
-                    | State::Struck
-                    | State::Lodged
-                    | State::Settled
-                    | State::FirstPaid
+                State::BidStands | State::Struck | State::Lodged | State::Settled | State::FirstPaid
             )
         );
         has_price && is_premium(self.altered.cell(PREMIUM, lot))

@@ -96,8 +96,16 @@ impl Tally {
         let different = equal.wrapping_add(1) < entries_in(answer);
         self.add_contract(contract, ContractCount::SeveralStruck, 1);
         self.add_contract(contract, ContractCount::AtOnePrice, u64::from(one_price));
-        self.add_contract(contract, ContractCount::AtDifferentPrices, u64::from(different));
-        self.add_contract(contract, ContractCount::AtBoth, u64::from(one_price && different));
+        self.add_contract(
+            contract,
+            ContractCount::AtDifferentPrices,
+            u64::from(different),
+        );
+        self.add_contract(
+            contract,
+            ContractCount::AtBoth,
+            u64::from(one_price && different),
+        );
     }
 
     fn count_quote(&mut self, contract: u64, answer: &Page) {

@@ -75,8 +75,7 @@ impl Tally {
     // Counts a value that is at a limit or beside it, with the number that the call returned.
     pub fn count_limit(&mut self, limit: Limit, value: i64, number: u64) {
         let step = value.wrapping_sub(limit.value()).wrapping_add(1);
-        self.limits
-            .count(limit as u64, step.cast_unsigned(), number, limit.refusal());
+        self.limits.count(limit as u64, step.cast_unsigned(), number, limit.refusal());
     }
 
     // The premium that the record of a registration has.

@@ -27,10 +27,12 @@ impl<R: Print> Report<'_, R> {
         value: u64,
         difference: Option<Difference>,
     ) -> io::Result<()> {
-        let Some(Difference {
-            of_library,
-            of_ledger,
-        }) = difference
+        let Some(
+            Difference {
+                of_library,
+                of_ledger,
+            },
+        ) = difference
         else {
             return Ok(());
         };

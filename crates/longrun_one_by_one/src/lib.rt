@@ -25,12 +25,7 @@ impl<R: Print> TableMaker<'_, R> {
     // ── Calls by themselves ─────────────────────────────────────────────────────────────────────
 
     // The table's call with this number. On an altered image a call is not counted, only shown where both sides differ.
-    fn make_alone(
-        &mut self,
-        k: u64,
-        request: Request,
-        alone: &mut MadeAlone,
-    ) -> io::Result<()> {
+    fn make_alone(&mut self, k: u64, request: Request, alone: &mut MadeAlone) -> io::Result<()> {
         let made = Sides::on(&alone.image).drive(request);
         alone.image = made.after;
         alone.records.put_record(k, &record_of(&request));
@@ -83,6 +78,7 @@ impl<R: Print> TableMaker<'_, R> {
             image: &mut copy,
         };
         alteration.alter();
+        let mut sides = Sides::on(&copy);
         let mut on_copy = TableMaker {
             report: Report {
                 rt: self.report.rt,
@@ -90,7 +86,7 @@ impl<R: Print> TableMaker<'_, R> {
             },
             draws: self.draws,
             plan: self.plan,
-            sides: &mut Sides::on(&copy),
+            sides: &mut sides,
             altered: true,
         };
         on_copy.make_table(lengths, first)

@@ -15,8 +15,8 @@ use std::io;
 
 fn is_default(answer: &Page, k: u64, account: u64) -> bool {
     let outcome = answer.cell(OUTCOME, k);
-    let of_buyer =
-        outcome == Outcome::BuyerDefault as u64 || outcome == Outcome::BothDefaulted as u64;
+    let of_buyer = outcome == Outcome::BuyerDefault as u64
+        || outcome == Outcome::BothDefaulted as u64;
     of_buyer && answer.cell(FROM, k) == account
 }
 

@@ -132,7 +132,7 @@ impl Owing {
 
     // Whether the figures are the run's own, whatever both sides agree on.
     pub fn are_right(&self, image: &Page, figures: &Page) -> bool {
-        (1..=ACCOUNTS)
-            .all(|account| figures.cell(SHORTFALL, account) == self.figure_of(image, account))
+        (1..=ACCOUNTS).all(|account| figures.cell(SHORTFALL, account)
+            == self.figure_of(image, account))
     }
 }

@@ -38,12 +38,7 @@ fn print_entries(rt: &impl Print, tally: &Tally) -> io::Result<()> {
 // ── Limits ──────────────────────────────────────────────────────────────────────────────────────
 
 // The number before each limit, the limit and the next: calls, those accepted, those refused by the limit's number.
-fn limit_rows(
-    rt: &impl Print,
-    tally: &Tally,
-    words: &str,
-    limits: &[Limit],
-) -> io::Result<()> {
+fn limit_rows(rt: &impl Print, tally: &Tally, words: &str, limits: &[Limit]) -> io::Result<()> {
     println!(rt; "{words}")?;
     for limit in limits {
         let first = limit.value().wrapping_sub(1);

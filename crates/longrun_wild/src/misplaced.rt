@@ -14,7 +14,9 @@ fn some_place(draws: &mut Draws) -> HeldPlace {
 impl Alteration<'_> {
     // The last lot of a drawn state that holds money, else the first of any state.
     fn some_holder(&mut self) -> Option<u64> {
-        let state = self.draws.between(State::BidStands as u64, State::FirstPaid as u64);
+        let state = self
+            .draws
+            .between(State::BidStands as u64, State::FirstPaid as u64);
         let first = self.draws.below(RECEIPTS);
         let mut found = None;
         for k in 0..RECEIPTS {

@@ -1,7 +1,5 @@
 // Sums that fit again: frozen money and total as the lots and balances make them.
-use ledger_book::{
-    ACCOUNTS, BUYER, Cells, FREE, FROZEN, Page, RECEIPTS, TOTAL, ZONE, is_account,
-};
+use ledger_book::{ACCOUNTS, BUYER, Cells, FREE, FROZEN, Page, RECEIPTS, TOTAL, ZONE, is_account};
 use longrun_draws::raise;
 
 fn clear_frozen(image: &mut Page) {
@@ -23,7 +21,9 @@ fn freeze_all(image: &mut Page) {
 fn add_up(image: &mut Page) {
     let total = (1..=ACCOUNTS).fold(0u64, |total, account| {
         let free = image.cell(FREE, account);
-        total.wrapping_add(free).wrapping_add(image.cell(FROZEN, account))
+        total
+            .wrapping_add(free)
+            .wrapping_add(image.cell(FROZEN, account))
     });
     image.set(TOTAL, ZONE, total);
 }

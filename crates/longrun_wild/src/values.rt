@@ -35,7 +35,8 @@ fn confirmed_edge(draws: &mut Draws, full: u64, pending: u64) -> u64 {
     if draws.percent(30) {
         return 0;
     }
-    full.wrapping_add(beyond).wrapping_sub(pending.wrapping_add(1))
+    full.wrapping_add(beyond)
+        .wrapping_sub(pending.wrapping_add(1))
 }
 
 fn other_value(draws: &mut Draws, old: u64, limit: u64) -> u64 {
