@@ -11,21 +11,21 @@ mod runs;
 
 use ledger_book::{ACCOUNTS, LAST_DAY, RECEIPTS};
 use longrun_call_tables::print_call_tables;
-use longrun_calls::{EACH_CONTRACT, NO_OPENING, ONE_CONTRACT, Plan, TO_LIMIT};
-use longrun_counts::{Tally, empty_tally};
+use longrun_calls::{Opening, Plan};
+use longrun_counts::Tally;
 use longrun_shortfalls::print_shortfalls;
 use longrun_tables::{print_differences, print_reached};
 use std::io;
 
 fn plan(seed: u64, calls: u64, receipts: u64, accounts: u64, closes: u64) -> Plan {
     Plan {
-        seed: seed,
-        calls: calls,
-        receipts: receipts,
-        accounts: accounts,
-        closes: closes,
+        seed,
+        calls,
+        receipts,
+        accounts,
+        closes,
         day: 1,
-        opening: NO_OPENING,
+        opening: None,
     }
 }
 
@@ -39,24 +39,30 @@ fn small_zones(rt: &impl Print, tally: &mut Tally) -> io::Result<()> {
 // All lots go through closes and quotes first, so that answers are full. The calls after that draw from all receipts and accounts in
 // one run, from half and a quarter of them in the other.
 fn long_answers(rt: &impl Print, tally: &mut Tally) -> io::Result<()> {
-    let mut all = plan(10140107109312335319, 12000, RECEIPTS, ACCOUNTS, 12);
-    all.opening = ONE_CONTRACT;
+    let all = Plan {
+        opening: Some(Opening::OneContract),
+        ..plan(10140107109312335319, 12000, RECEIPTS, ACCOUNTS, 12)
+    };
+    let half = Plan {
+        opening: Some(Opening::EachContract),
+        ..plan(6364136223846793005, 12000, RECEIPTS / 2, ACCOUNTS / 4, 20)
+    };
     runs::run(rt, all, tally)?;
-    let mut half = plan(6364136223846793005, 12000, RECEIPTS / 2, ACCOUNTS / 4, 20);
-    half.opening = EACH_CONTRACT;
     runs::run(rt, half, tally)
 }
 
 // Money up to the limit, and the last days that a zone has.
 fn last_days(rt: &impl Print, tally: &mut Tally) -> io::Result<()> {
-    let mut late = plan(12605985483714917081, 12000, 24, 6, 40);
-    late.day = LAST_DAY - 150;
-    late.opening = TO_LIMIT;
+    let late = Plan {
+        day: LAST_DAY - 150,
+        opening: Some(Opening::ToLimit),
+        ..plan(12605985483714917081, 12000, 24, 6, 40)
+    };
     runs::run(rt, late, tally)
 }
 
 fn main(rt: HostRuntime) -> io::Result<()> {
-    let mut tally: Tally = empty_tally();
+    let mut tally = Tally::empty();
     runs::all_lengths(&rt, &mut tally)?;
     small_zones(&rt, &mut tally)?;
     long_answers(&rt, &mut tally)?;

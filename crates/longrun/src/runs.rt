@@ -1,111 +1,134 @@
 // A run: a zone from its fresh image on.
-use ledger_book::{DAY, IMAGE_LENGTH, PAGE_LENGTH, Page, ZONE};
-use longrun_calls::{Plan, sensible};
-use longrun_counts::{Tally, count_altered, count_call, count_fresh};
-use longrun_draws::{Request, below};
-use longrun_one_by_one::{make_some_table, open};
+use ledger_book::{DAY, IMAGE_LENGTH, PAGE_LENGTH, ZONE};
+use longrun_calls::{Chooser, Plan};
+use longrun_counts::{Report, Tally};
+use longrun_draws::Draws;
+use longrun_one_by_one::TableMaker;
 use longrun_pay_ins::ask_now_and_then;
-use longrun_sides::{agree_on_fresh, drive, filled};
-use longrun_wild::{alter, make_wild};
+use longrun_sides::{Sides, filled};
+use longrun_wild::{Alteration, make_wild};
 use std::io;
 
 // A fresh image on both sides, in buffers of this length.
-fn make_fresh(
-    rt: &impl Print,
+fn make_fresh<R: Print>(
+    report: &mut Report<'_, R>,
+    sides: &mut Sides,
     length: usize,
-    image: &mut Page,
-    second: &mut Page,
-    tally: &mut Tally,
 ) -> io::Result<()> {
-    count_fresh(rt, length, agree_on_fresh(length, image, second), tally)
+    let agree = sides.agree_on_fresh(length);
+    report.count_fresh(length, agree)
 }
 
 // Every length that a buffer can have here; the right one is among them.
-pub fn all_lengths(rt: &impl Print, tally: &mut Tally) -> io::Result<()> {
-    let mut image: Page = filled();
-    let mut second: Page = filled();
-    for length in 0..PAGE_LENGTH + 1 {
-        make_fresh(rt, length, &mut image, &mut second, tally)?;
+pub fn all_lengths<R: Print>(rt: &R, tally: &mut Tally) -> io::Result<()> {
+    let mut report = Report { rt, tally };
+    let mut sides = Sides::on(&filled());
+    for length in 0..=PAGE_LENGTH {
+        make_fresh(&mut report, &mut sides, length)?;
     }
     Ok(())
 }
 
-// Both sides judge an altered copy, which is counted apart from the calls; the run goes on with the image as it was.
-fn judge_altered(
-    rt: &impl Print,
-    seed: &mut u64,
+#[derive(Drop)]
+struct Run<'a, R: Print> {
+    report: Report<'a, R>,
+    draws: Draws,
     plan: Plan,
-    image: &Page,
-    tally: &mut Tally,
-) -> io::Result<()> {
-    let mut copy: Page = *image;
-    let q = alter(seed, plan, &mut copy);
-    let altered: Page = copy;
-    let mut second: Page = copy;
-    let mut answer: Page = filled();
-    let v = drive(q, &mut copy, &mut second, &mut answer);
-    count_altered(rt, q, v, image, &altered, tally)
+    sides: Sides,
 }
 
-fn make(
-    rt: &impl Print,
-    q: Request,
-    image: &mut Page,
-    second: &mut Page,
-    tally: &mut Tally,
-) -> io::Result<()> {
-    let before: Page = *image;
-    let mut answer: Page = filled();
-    let v = drive(q, image, second, &mut answer);
-    count_call(rt, q, v, &before, image, &answer, tally)
-}
+impl<R: Print> Run<'_, R> {
+    // Both sides judge an altered copy, which is counted apart from the calls; the run goes on with the image as it was.
+    fn judge_altered(&mut self) -> io::Result<()> {
+        let mut copy = self.sides.image;
+        let mut alteration = Alteration {
+            draws: &mut self.draws,
+            plan: self.plan,
+            image: &mut copy,
+        };
+        let request = alteration.alter();
+        let made = Sides::on(&copy).drive(request);
+        self.report.count_altered(&made, &self.sides.image)
+    }
 
-fn next_call(
-    rt: &impl Print,
-    seed: &mut u64,
-    plan: Plan,
-    image: &mut Page,
-    second: &mut Page,
-    tally: &mut Tally,
-) -> io::Result<()> {
-    let draw = below(seed, 100);
-    if draw < 12 {
-        return judge_altered(rt, seed, plan, image, tally);
+    // A sensible call, or a wild one.
+    fn make_call(&mut self, wild: bool) -> io::Result<()> {
+        let mut chooser = Chooser {
+            draws: &mut self.draws,
+            plan: self.plan,
+            image: &self.sides.image,
+        };
+        let mut request = chooser.sensible();
+        if wild {
+            request = make_wild(&mut self.draws, request);
+        }
+        let made = self.sides.drive(request);
+        self.report.count_call(&made)
     }
-    if draw >= 98 {
-        return make_some_table(rt, seed, plan, image, second, tally);
-    }
-    let mut q = sensible(seed, plan, image);
-    if draw < 24 {
-        q = make_wild(seed, q);
-    }
-    make(rt, q, image, second, tally)
-}
 
-fn make_calls(
-    rt: &impl Print,
-    seed: &mut u64,
-    plan: Plan,
-    image: &mut Page,
-    second: &mut Page,
-    tally: &mut Tally,
-) -> io::Result<()> {
-    let calls = plan.calls;
-    for k in 0..calls {
-        ask_now_and_then(rt, *seed, plan, image, tally)?;
-        next_call(rt, seed, plan, image, second, tally)?;
+    fn make_some_table(&mut self) -> io::Result<()> {
+        let mut maker = TableMaker {
+            report: Report {
+                rt: self.report.rt,
+                tally: self.report.tally,
+            },
+            draws: &mut self.draws,
+            plan: self.plan,
+            sides: &mut self.sides,
+            altered: false,
+        };
+        maker.make_some_table()
     }
-    Ok(())
+
+    fn next_call(&mut self) -> io::Result<()> {
+        match self.draws.below(100) {
+            0..=11 => self.judge_altered(),
+            12..=23 => self.make_call(true),
+            24..=97 => self.make_call(false),
+            _ => self.make_some_table(),
+        }
+    }
+
+    fn open(&mut self) -> io::Result<()> {
+        let mut maker = TableMaker {
+            report: Report {
+                rt: self.report.rt,
+                tally: self.report.tally,
+            },
+            draws: &mut self.draws,
+            plan: self.plan,
+            sides: &mut self.sides,
+            altered: false,
+        };
+        maker.open()
+    }
+
+    fn ask_now_and_then(&mut self) -> io::Result<()> {
+        let report = Report {
+            rt: self.report.rt,
+            tally: self.report.tally,
+        };
+        ask_now_and_then(report, self.draws, self.plan, &self.sides.image)
+    }
 }
 
 // Both sides start on their own fresh image; a later day is written into both.
-pub fn run(rt: &impl Print, plan: Plan, tally: &mut Tally) -> io::Result<()> {
-    let mut image: Page = filled();
-    let mut second: Page = filled();
-    make_fresh(rt, IMAGE_LENGTH, &mut image, &mut second, tally)?;
-    image.set(DAY, ZONE, plan.day);
-    second.set(DAY, ZONE, plan.day);
-    let mut seed = plan.seed;
-    open(rt, &mut seed, plan, &mut image, &mut second, tally)?;
-    make_calls(rt, &mut seed, plan, &mut image, &mut second, tally)
+pub fn run<R: Print>(rt: &R, plan: Plan, tally: &mut Tally) -> io::Result<()> {
+    let mut report = Report { rt, tally };
+    let mut sides = Sides::on(&filled());
+    make_fresh(&mut report, &mut sides, IMAGE_LENGTH)?;
+    sides.image.set(DAY, ZONE, plan.day);
+    sides.second.set(DAY, ZONE, plan.day);
+    let mut run = Run {
+        report,
+        draws: Draws::from_seed(plan.seed),
+        plan,
+        sides,
+    };
+    run.open()?;
+    for _ in 0..plan.calls {
+        run.ask_now_and_then()?;
+        run.next_call()?;
+    }
+    Ok(())
 }

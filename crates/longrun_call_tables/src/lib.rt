@@ -6,5 +6,5 @@ mod draws;
 mod rows;
 
 pub use counts::count_table;
-pub use draws::{call_in_table, some_table, table_of};
+pub use draws::{call_in_table, some_table};
 pub use rows::print_call_tables;

@@ -1,21 +1,18 @@
 // The calls that a run begins with, by their number.
 use ledger_book::{
-    ACCOUNTS, CONTRACTS, MOST_AMOUNT, MOST_PREMIUM, MOST_TOTAL, PRICE_STEP, RECEIPTS,
+    ACCOUNTS, CONTRACTS, Kind, MOST_AMOUNT, MOST_PREMIUM, MOST_TOTAL, PRICE_STEP, RECEIPTS,
 };
-use longrun_draws::{Request, quote_of, request_of};
+use longrun_draws::Request;
 
-// ── Which opening ───────────────────────────────────────────────────────────────────────────────
-
-pub const NO_OPENING: u64 = 0;
-
-// Pay-ins up to the most that a zone may hold, and one more.
-pub const TO_LIMIT: u64 = 1;
-
-// All lots through a day close, and then through quotes and a morning close, so that answers are full. The lots are of one contract, so
-// that one quote strikes them all, or of each in turn.
-pub const ONE_CONTRACT: u64 = 2;
-
-pub const EACH_CONTRACT: u64 = 3;
+#[derive(Clone, Copy, PartialEq, Eq)]
+pub enum Opening {
+    // Pay-ins up to the most that a zone may hold, and one more.
+    ToLimit,
+    // All lots through a day close, and then through quotes and a morning close, so that answers are full. The lots are of one contract, so
+    // that one quote strikes them all, or of each in turn.
+    OneContract,
+    EachContract,
+}
 
 // ── Steps of a full opening, each with the number of the call that comes after it ───────────────
 
@@ -38,14 +35,6 @@ const SECOND_DAY_OVER: u64 = LODGED + 2;
 
 const PAY_INS_TO_LIMIT: u64 = MOST_TOTAL / MOST_AMOUNT;
 
-pub fn opening_calls(opening: u64) -> u64 {
-    match opening {
-        NO_OPENING => 0,
-        TO_LIMIT => PAY_INS_TO_LIMIT + 1,
-        _ => SECOND_DAY_OVER,
-    }
-}
-
 // ── Calls ───────────────────────────────────────────────────────────────────────────────────────
 
 const SELLER_OF_ALL: u64 = 2;
@@ -54,90 +43,101 @@ const ASKED: u64 = 15000;
 
 // With a premium that goes from one end of the range to the other in four steps, lot by lot.
 fn register(lot: u64) -> Request {
-    let mut q = request_of(3, SELLER_OF_ALL, lot, 0);
-    q.basis = ((lot % 5).wrapping_mul(MOST_PREMIUM / 2)).wrapping_sub(MOST_PREMIUM);
-    q.weight = lot.wrapping_add(40000);
-    q
+    let premium = (lot % 5 * (MOST_PREMIUM / 2)).wrapping_sub(MOST_PREMIUM);
+    Request {
+        basis: premium,
+        weight: lot.wrapping_add(40000),
+        ..Request::new(Kind::Register, SELLER_OF_ALL, lot, 0)
+    }
 }
 
 fn pay_in(account: u64) -> Request {
     let amount = account.wrapping_mul(400000000).wrapping_add(2000000000);
-    request_of(1, account, 0, amount)
-}
-
-fn list(opening: u64, lot: u64) -> Request {
-    let mut q = request_of(4, SELLER_OF_ALL, lot, 0);
-    q.contract = 1;
-    if opening == EACH_CONTRACT {
-        q.contract = (lot % CONTRACTS).wrapping_add(1);
-    }
-    q
+    Request::new(Kind::PayIn, account, 0, amount)
 }
 
 // At the ask that will come, or up to two steps above it, by one of 22 buyers.
 fn bid(lot: u64) -> Request {
-    let buyer = (SELLER_OF_ALL + 1).wrapping_add(lot % 22);
-    let price = ASKED.wrapping_add(PRICE_STEP.wrapping_mul(lot % 3));
-    request_of(6, buyer, lot, price)
-}
-
-// The listing of a lot, then the bid on it.
-fn offer(opening: u64, k: u64) -> Request {
-    let lot = (k / 2).wrapping_add(1);
-    if k % 2 == 0 {
-        return list(opening, lot);
-    }
-    bid(lot)
+    let buyer = SELLER_OF_ALL + 1 + lot % 22;
+    Request::new(Kind::LimitBid, buyer, lot, ASKED + PRICE_STEP * (lot % 3))
 }
 
 // The morning close, then the day close.
 fn close(k: u64) -> Request {
-    if k == 0 {
-        return request_of(11, 0, 0, 0);
+    match k {
+        0 => Request::close(Kind::MorningClose),
+        _ => Request::close(Kind::DayClose),
     }
-    request_of(15, 0, 0, 0)
 }
 
 // One lot of four is not lodged: the call comes from another account. The last lot is lodged, so that it is settled and holds money.
 fn lodge(lot: u64) -> Request {
-    if lot % 4 == 1 {
-        return request_of(10, SELLER_OF_ALL + 1, lot, 0);
-    }
-    request_of(10, SELLER_OF_ALL, lot, 0)
+    let account = match lot % 4 {
+        1 => SELLER_OF_ALL + 1,
+        _ => SELLER_OF_ALL,
+    };
+    Request::new(Kind::Lodge, account, lot, 0)
 }
 
-fn first_day(opening: u64, k: u64) -> Request {
-    if k < REGISTERED {
-        return register(k.wrapping_add(1));
-    }
-    if k < PAID_IN {
-        return pay_in(k.wrapping_sub(REGISTERED).wrapping_add(1));
-    }
-    if k < OFFERED {
-        return offer(opening, k.wrapping_sub(PAID_IN));
-    }
-    close(k.wrapping_sub(OFFERED))
+// The number of a row that has `k` before it.
+fn row(k: u64) -> u64 {
+    k.wrapping_add(1)
 }
 
-fn second_day(opening: u64, k: u64) -> Request {
-    if k < OFFERED_AGAIN {
-        return offer(opening, k.wrapping_sub(DAY_OVER));
+impl Opening {
+    pub fn calls(self) -> u64 {
+        match self {
+            Opening::ToLimit => PAY_INS_TO_LIMIT + 1,
+            Opening::OneContract | Opening::EachContract => SECOND_DAY_OVER,
+        }
     }
-    if k < QUOTED {
-        return quote_of(k.wrapping_sub(OFFERED_AGAIN).wrapping_add(1), ASKED);
-    }
-    if k < LODGED {
-        return lodge(k.wrapping_sub(QUOTED).wrapping_add(1));
-    }
-    close(k.wrapping_sub(LODGED))
-}
 
-pub fn opening_call(opening: u64, k: u64) -> Request {
-    if opening == TO_LIMIT {
-        return request_of(1, (k % 6).wrapping_add(1), 0, MOST_AMOUNT);
+    fn list(self, lot: u64) -> Request {
+        let contract = match self {
+            Opening::EachContract => lot % CONTRACTS + 1,
+            _ => 1,
+        };
+        Request {
+            contract,
+            ..Request::new(Kind::List, SELLER_OF_ALL, lot, 0)
+        }
     }
-    if k < DAY_OVER {
-        return first_day(opening, k);
+
+    // The listing of a lot, then the bid on it.
+    fn offer(self, k: u64) -> Request {
+        let lot = row(k / 2);
+        match k % 2 {
+            0 => self.list(lot),
+            _ => bid(lot),
+        }
     }
-    second_day(opening, k)
+
+    fn first_day(self, k: u64) -> Request {
+        match k {
+            0..REGISTERED => register(row(k)),
+            REGISTERED..PAID_IN => pay_in(row(k - REGISTERED)),
+            PAID_IN..OFFERED => self.offer(k - PAID_IN),
+            _ => close(k.wrapping_sub(OFFERED)),
+        }
+    }
+
+    fn second_day(self, k: u64) -> Request {
+        match k {
+            0..OFFERED_AGAIN => self.offer(k.wrapping_sub(DAY_OVER)),
+            OFFERED_AGAIN..QUOTED => Request::quote(row(k - OFFERED_AGAIN), ASKED),
+            QUOTED..LODGED => lodge(row(k - QUOTED)),
+            _ => close(k.wrapping_sub(LODGED)),
+        }
+    }
+
+    // The call with this number, from 0 on.
+    pub fn call(self, k: u64) -> Request {
+        if self == Opening::ToLimit {
+            return Request::new(Kind::PayIn, k % 6 + 1, 0, MOST_AMOUNT);
+        }
+        if k < DAY_OVER {
+            return self.first_day(k);
+        }
+        self.second_day(k)
+    }
 }

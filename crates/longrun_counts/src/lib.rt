@@ -1,30 +1,23 @@
 // What the long runs reach, counted call by call.
 #![tactic(auto)]
 
-mod counts;
+mod altered;
+mod calls;
+mod entries;
 mod limits;
-mod lines;
+mod made;
 mod misplaced;
-mod pages;
 mod parts;
+mod report;
+mod rows;
 mod tally;
+mod trials;
 
-pub use counts::{Verdict, count_altered, count_call, count_fresh, entries_in, show};
-pub use lines::line;
-pub use pages::same;
-pub use parts::count_where;
-pub use tally::{
-    ACCEPTED_BEHIND, ALTERED_HIGHEST_PREMIUM, ALTERED_LEAST_PREMIUM, ALTERED_PRICE, ANSWER_CLASSES,
-    ASKED, ASKED_IMAGES, ASKED_NUMBERS, BAD_IMAGES, CALL_TABLES, CALL_TABLES_END, CALLS,
-    CLOSE_LOTS, CLOSE_ROWS, COUNTS_OF_CLOSE, COUNTS_OF_CONTRACT, COUNTS_OF_HOLDER,
-    COUNTS_OF_OUTCOME, COUNTS_OF_PART, COUNTS_OF_REASON, COUNTS_OF_SIZE, DIFFERENCES, FIGURES_ROOM,
-    FRESH, HELD_SUMS, HIGHEST_PREMIUM, HOLDER_ROWS, INVOICE_AMOUNT, KIND_ROWS, LAST_PAYMENT,
-    LEAST_PREMIUM, LIMIT_BID_PRICE, LIMIT_COUNT, MARKET_BID_PRICE, MOST_ENTRIES, NOBODYS_PREMIUM,
-    NUMBERS, OWING, OWING_CLASSES, OWING_ROWS, PAID_FIGURES, PAID_FOR_NOTHING, PAID_FOR_SOME,
-    PAID_LESS, PAID_LESS_STATES, PAID_NOTHING, PAID_OTHER, PARTS, PAY_IN_AMOUNT, PREMIUM_CLASSES,
-    REASON_ROWS, REFUSED_IMAGES, RESTS, ROOM_CLASSES, SHORT, SHORT_ABOVE_U32, SHORT_BELOW_DEPOSIT,
-    SHORT_CLASSES, SHORT_FIRST, SHORT_LAST, SHORT_ONE_FEN, SHORTFALLS_END, SIZE_ROWS,
-    TABLE_ANSWERS, TABLE_IMAGES, TABLE_NUMBERS, TABLE_OUTCOMES, TABLE_REASONS, TABLE_RESTS,
-    TABLE_SIZES, TAKE_OUT_AMOUNT, TOTAL_AFTER, TOTAL_BEFORE, Tally, VALID_IMAGES, add, at_limit,
-    counted, empty_tally, of_contract, of_outcome, pair,
-};
+pub use entries::entries_in;
+pub use limits::{LIMITS, Limit};
+pub use made::{Asked, Difference, Made, MadeTable, Verdict};
+pub use parts::PartCount;
+pub use report::Report;
+pub use rows::{CountRow, Counts};
+pub use tally::{NUMBERS, Tally};
+pub use trials::{TrialTable, Trials};

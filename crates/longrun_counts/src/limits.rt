@@ -1,146 +1,128 @@
 // Values at a limit and beside it, with the numbers that calls returned there.
-use crate::tally::{
-    ALTERED_HIGHEST_PREMIUM, ALTERED_LEAST_PREMIUM, ALTERED_PRICE, HIGHEST_PREMIUM, INVOICE_AMOUNT,
-    LEAST_PREMIUM, LIMIT_BID_PRICE, MARKET_BID_PRICE, NOBODYS_PREMIUM, PAY_IN_AMOUNT,
-    TAKE_OUT_AMOUNT, TOTAL_AFTER, TOTAL_BEFORE, Tally, add, at_limit,
-};
+use crate::made::Made;
+use crate::tally::Tally;
 use ledger_book::{
-    ASK, BASIS, CONTRACT, Cells, MOST_AMOUNT, MOST_PREMIUM, MOST_TOTAL, OWNER, PREMIUM, PRICE,
-    Page, RECEIPTS, STATE, is_premium, signed, signed_price,
+    ASK, BASIS, CONTRACT, Cells, Kind, MOST_AMOUNT, MOST_PREMIUM, MOST_TOTAL, PREMIUM, Page,
+    Refusal, TOTAL, ZONE, signed, signed_price,
 };
-use longrun_draws::Request;
 
-// A call, whether it was accepted, whether it was refused by this number.
-pub fn count_number(tally: &mut Tally, place: u64, number: u64, refusal: u64) {
-    add(tally, place, 1);
-    if number == 0 {
-        add(tally, place.wrapping_add(1), 1);
-    }
-    if number == refusal {
-        add(tally, place.wrapping_add(2), 1);
-    }
+#[derive(Clone, Copy, PartialEq, Eq)]
+pub enum Limit {
+    PayInAmount,
+    TakeOutAmount,
+    InvoiceAmount,
+    TotalAfter,
+    TotalBefore,
+    // The ends of the range of premiums, and one yuan for a tonne, the least that there can be to pay: in calls, and then in images with
+    // another premium.
+    LeastPremium,
+    HighestPremium,
+    LimitBidPrice,
+    MarketBidPrice,
+    AlteredLeastPremium,
+    AlteredHighestPremium,
+    AlteredPrice,
+    // What is paid of the rest in an image whose trade has other invoices, beside what it must be: with something confirmed, and with nothing.
+    PaidForSome,
+    PaidForNothing,
 }
 
-// Counts a value that is at a limit or beside it, with the number that the call returned.
-pub fn count_limit(tally: &mut Tally, limit: u64, distance: u64, number: u64, refusal: u64) {
-    let step = distance.wrapping_add(1);
-    if step <= 2 {
-        count_number(tally, at_limit(limit, step), number, refusal);
-    }
-}
+pub const LIMIT_COUNT: usize = 14;
 
-// ── Premiums and prices ─────────────────────────────────────────────────────────────────────────
+// In the order of their rows in the tally.
+pub const LIMITS: [Limit; LIMIT_COUNT] = [
+    Limit::PayInAmount,
+    Limit::TakeOutAmount,
+    Limit::InvoiceAmount,
+    Limit::TotalAfter,
+    Limit::TotalBefore,
+    Limit::LeastPremium,
+    Limit::HighestPremium,
+    Limit::LimitBidPrice,
+    Limit::MarketBidPrice,
+    Limit::AlteredLeastPremium,
+    Limit::AlteredHighestPremium,
+    Limit::AlteredPrice,
+    Limit::PaidForSome,
+    Limit::PaidForNothing,
+];
 
-// The premium that the record of a registration has.
-fn count_registration(q: Request, number: u64, tally: &mut Tally) {
-    let premium = signed(q.basis % 4294967296).cast_unsigned();
-    count_limit(
-        tally,
-        LEAST_PREMIUM,
-        premium.wrapping_add(MOST_PREMIUM),
-        number,
-        4,
-    );
-    count_limit(
-        tally,
-        HIGHEST_PREMIUM,
-        premium.wrapping_sub(MOST_PREMIUM),
-        number,
-        4,
-    );
-}
-
-// How far what a tonne of the lot costs at this price lies above one yuan.
-fn above_one(image: &Page, lot: u64, price: u64) -> u64 {
-    let basis = image.cell(BASIS, lot);
-    signed_price(price, basis, image.cell(PREMIUM, lot))
-        .cast_unsigned()
-        .wrapping_sub(1)
-}
-
-// A bid leaves basis, premium and ask as they were.
-fn count_limit_bid(q: Request, image: &Page, number: u64, tally: &mut Tally) {
-    let distance = above_one(image, q.receipt % 256, q.amount);
-    count_limit(tally, LIMIT_BID_PRICE, distance, number, 10);
-}
-
-fn count_market_bid(q: Request, image: &Page, number: u64, tally: &mut Tally) {
-    let lot = q.receipt % 256;
-    let ask = image.cell(ASK, image.cell(CONTRACT, lot));
-    if ask != 0 {
-        count_limit(
-            tally,
-            MARKET_BID_PRICE,
-            above_one(image, lot, ask),
-            number,
-            10,
-        );
-    }
-}
-
-// ── Calls ───────────────────────────────────────────────────────────────────────────────────────
-
-// Amounts about the most that a call may name, and totals about the most that a zone may hold: the total that the image has, and the one
-// that a pay-in would make. Premiums about the ends of their range, and bids at which a tonne costs next to nothing.
-pub fn count_limits(q: Request, image: &Page, total: u64, number: u64, tally: &mut Tally) {
-    let kind = q.kind;
-    let beyond = q.amount.wrapping_sub(MOST_AMOUNT);
-    let before = total.wrapping_sub(MOST_TOTAL);
-    count_limit(tally, TOTAL_BEFORE, before, number, 2);
-    match kind {
-        1 => {
-            count_limit(tally, PAY_IN_AMOUNT, beyond, number, 4);
-            count_limit(
-                tally,
-                TOTAL_AFTER,
-                before.wrapping_add(q.amount),
-                number,
-                12,
-            );
-        }
-        2 => count_limit(tally, TAKE_OUT_AMOUNT, beyond, number, 4),
-        3 => count_registration(q, number, tally),
-        6 => count_limit_bid(q, image, number, tally),
-        7 => count_market_bid(q, image, number, tally),
-        13 => count_limit(tally, INVOICE_AMOUNT, beyond, number, 4),
-        _ => {}
-    }
-}
-
-// ── Altered images ──────────────────────────────────────────────────────────────────────────────
-
-// A lot that got another premium. What a tonne costs is told only where the premium is one.
-fn count_premium(altered: &Page, lot: u64, number: u64, tally: &mut Tally) {
-    let bits = altered.cell(PREMIUM, lot);
-    let premium = signed(bits).cast_unsigned();
-    if altered.cell(OWNER, lot) == 0 {
-        count_number(tally, NOBODYS_PREMIUM, number, 2);
-        return;
-    }
-    count_limit(
-        tally,
-        ALTERED_LEAST_PREMIUM,
-        premium.wrapping_add(MOST_PREMIUM),
-        number,
-        2,
-    );
-    count_limit(
-        tally,
-        ALTERED_HIGHEST_PREMIUM,
-        premium.wrapping_sub(MOST_PREMIUM),
-        number,
-        2,
-    );
-    if (2..=6).contains(&altered.cell(STATE, lot)) & is_premium(bits) {
-        let distance = above_one(altered, lot, altered.cell(PRICE, lot));
-        count_limit(tally, ALTERED_PRICE, distance, number, 2);
-    }
-}
-
-pub fn count_premiums(sound: &Page, altered: &Page, number: u64, tally: &mut Tally) {
-    for lot in 1..RECEIPTS + 1 {
-        if sound.cell(PREMIUM, lot) != altered.cell(PREMIUM, lot) {
-            count_premium(altered, lot, number, tally);
+impl Limit {
+    pub fn value(self) -> i64 {
+        match self {
+            Limit::PayInAmount | Limit::TakeOutAmount | Limit::InvoiceAmount => MOST_AMOUNT as i64,
+            Limit::TotalAfter | Limit::TotalBefore => MOST_TOTAL as i64,
+            Limit::LeastPremium | Limit::AlteredLeastPremium => -(MOST_PREMIUM as i64),
+            Limit::HighestPremium | Limit::AlteredHighestPremium => MOST_PREMIUM as i64,
+            Limit::LimitBidPrice | Limit::MarketBidPrice | Limit::AlteredPrice => 1,
+            Limit::PaidForSome | Limit::PaidForNothing => 0,
         }
     }
+
+    // What refuses a value beyond it.
+    pub fn refusal(self) -> Refusal {
+        match self {
+            Limit::PayInAmount | Limit::TakeOutAmount | Limit::InvoiceAmount => Refusal::OutOfRange,
+            Limit::LeastPremium | Limit::HighestPremium => Refusal::OutOfRange,
+            Limit::TotalAfter => Refusal::OverLimit,
+            Limit::LimitBidPrice | Limit::MarketBidPrice => Refusal::NothingToPay,
+            _ => Refusal::BadImage,
+        }
+    }
+}
+
+impl Tally {
+    // Counts a value that is at a limit or beside it, with the number that the call returned.
+    pub fn count_limit(&mut self, limit: Limit, value: i64, number: u64) {
+        let step = value.wrapping_sub(limit.value()).wrapping_add(1);
+        self.limits.count(limit as u64, step.cast_unsigned(), number, limit.refusal());
+    }
+
+    // The premium that the record of a registration has.
+    fn count_registration(&mut self, made: &Made) {
+        let premium = signed(made.request.basis % 4294967296);
+        self.count_limit(Limit::LeastPremium, premium, made.verdict.number);
+        self.count_limit(Limit::HighestPremium, premium, made.verdict.number);
+    }
+
+    // A bid leaves basis, premium and ask as they were.
+    fn count_limit_bid(&mut self, made: &Made, image: &Page) {
+        let cost = cost_at(image, made.request.lot(), made.request.amount);
+        self.count_limit(Limit::LimitBidPrice, cost, made.verdict.number);
+    }
+
+    fn count_market_bid(&mut self, made: &Made, image: &Page) {
+        let lot = made.request.lot();
+        let ask = image.cell(ASK, image.cell(CONTRACT, lot));
+        if ask != 0 {
+            let cost = cost_at(image, lot, ask);
+            self.count_limit(Limit::MarketBidPrice, cost, made.verdict.number);
+        }
+    }
+
+    // Amounts about the most that a call may name, and totals about the most that a zone may hold: the total that the image has, and the one
+    // that a pay-in would make. Premiums about the ends of their range, and bids at which a tonne costs next to nothing.
+    pub fn count_limits(&mut self, made: &Made, image: &Page) {
+        let number = made.verdict.number;
+        let amount = made.request.amount.cast_signed();
+        let total = made.before.cell(TOTAL, ZONE).cast_signed();
+        self.count_limit(Limit::TotalBefore, total, number);
+        match made.request.kind() {
+            Some(Kind::PayIn) => {
+                self.count_limit(Limit::PayInAmount, amount, number);
+                self.count_limit(Limit::TotalAfter, total.wrapping_add(amount), number);
+            }
+            Some(Kind::TakeOut) => self.count_limit(Limit::TakeOutAmount, amount, number),
+            Some(Kind::Register) => self.count_registration(made),
+            Some(Kind::LimitBid) => self.count_limit_bid(made, image),
+            Some(Kind::MarketBid) => self.count_market_bid(made, image),
+            Some(Kind::Invoice) => self.count_limit(Limit::InvoiceAmount, amount, number),
+            _ => {}
+        }
+    }
+}
+
+// What a tonne of the lot costs at this price, with its sign.
+pub fn cost_at(image: &Page, lot: u64, price: u64) -> i64 {
+    signed_price(price, image.cell(BASIS, lot), image.cell(PREMIUM, lot))
 }

@@ -1,36 +1,47 @@
 // Altered images in which what a lot holds is elsewhere, and nothing else is altered (02 4/12).
-use crate::limits::count_number;
-use crate::pages::same;
-use crate::tally::{LAST_LOT, Tally, of_held};
-use ledger_book::{BUYER, Cells, FROZEN, Page, RECEIPTS, STATE};
-use longrun_draws::{TO_ACCOUNT_BEFORE, TO_FREE, TO_SELLER, held_by, move_held};
+use crate::altered::Altered;
+use ledger_book::{BUYER, Cells, FROZEN, Page, RECEIPTS, Refusal, STATE, State};
+use longrun_draws::{HELD_PLACES, HeldPlace, move_held};
 
-fn count_place(sound: &Page, altered: &Page, lot: u64, place: u64, number: u64, tally: &mut Tally) {
-    let state = sound.cell(STATE, lot);
-    let mut moved: Page = *sound;
-    move_held(&mut moved, lot, place);
-    if same(&moved, altered) {
-        count_number(tally, of_held(state.wrapping_sub(2), place), number, 2);
+// The row behind those of the states that hold money.
+const LAST_LOT: u64 = 5;
+
+impl Altered<'_> {
+    fn count_place(&mut self, lot: u64, place: HeldPlace) {
+        let mut moved: Page = *self.sound;
+        move_held(&mut moved, lot, place);
+        if moved != *self.altered {
+            return;
+        }
+        let state = self.sound.cell(STATE, lot);
+        let row = state.wrapping_sub(State::BidStands as u64);
+        self.count_holder(row, place);
         if lot == RECEIPTS {
-            count_number(tally, of_held(LAST_LOT, place), number, 2);
+            self.count_holder(LAST_LOT, place);
         }
     }
-}
 
-// Two lots that hold the same sum from one account can both be the one.
-fn count_lot(sound: &Page, altered: &Page, lot: u64, number: u64, tally: &mut Tally) {
-    let buyer = sound.cell(BUYER, lot);
-    let held = held_by(sound, lot);
-    let left = sound.cell(FROZEN, buyer).wrapping_sub(held);
-    if (held != 0) & (altered.cell(FROZEN, buyer) == left) {
-        count_place(sound, altered, lot, TO_SELLER, number, tally);
-        count_place(sound, altered, lot, TO_ACCOUNT_BEFORE, number, tally);
-        count_place(sound, altered, lot, TO_FREE, number, tally);
+    fn count_holder(&mut self, row: u64, place: HeldPlace) {
+        self.tally
+            .holders
+            .count(row, place as u64, self.number, Refusal::BadImage);
     }
-}
 
-pub fn count_misplaced(sound: &Page, altered: &Page, number: u64, tally: &mut Tally) {
-    for lot in 1..RECEIPTS + 1 {
-        count_lot(sound, altered, lot, number, tally);
+    // Two lots that hold the same sum from one account can both be the one.
+    fn count_lot(&mut self, lot: u64) {
+        let buyer = self.sound.cell(BUYER, lot);
+        let held = self.sound.held(lot);
+        let left = self.sound.cell(FROZEN, buyer).wrapping_sub(held);
+        if held != 0 && self.altered.cell(FROZEN, buyer) == left {
+            for place in HELD_PLACES {
+                self.count_place(lot, place);
+            }
+        }
+    }
+
+    pub fn count_misplaced(&mut self) {
+        for lot in 1..=RECEIPTS {
+            self.count_lot(lot);
+        }
     }
 }

@@ -1,124 +1,92 @@
-// Parties, prices, premiums and weights, mostly such as carry a lot on, now and then at the end of a range or just beyond it.
-use crate::draws::{below, beside, between, percent};
+// Prices, premiums and weights, mostly such as carry a lot on, now and then at the end of a range or just beyond it. A number below 0 is
+// drawn modulo 2^64: a call record takes its lowest bits.
+use crate::draws::Draws;
 use ledger_book::{
-    CONTRACTS, Cells, DAY, LEAST_WEIGHT, MOST_BASIS, MOST_DAYS, MOST_PREMIUM, MOST_PRICE,
-    MOST_WEIGHT, PRICE_STEP, Page, ZONE,
+    CONTRACTS, LEAST_WEIGHT, MOST_BASIS, MOST_DAYS, MOST_PREMIUM, MOST_PRICE, MOST_WEIGHT,
+    PRICE_STEP,
 };
 
 // Prices of the last contract are low, so that full payments lie below the deposit.
 const CHEAP_CONTRACT: u64 = CONTRACTS;
 
-// Mostly the party named.
-pub fn party(seed: &mut u64, accounts: u64, account: u64) -> u64 {
-    if percent(seed, 8) | (account == 0) {
-        return between(seed, 1, accounts);
-    }
-    account
-}
-
-// Mostly one of three that change from day to day, so that quotes meet bids on several lots, of each contract in its turn.
-pub fn some_contract(seed: &mut u64, image: &Page) -> u64 {
-    if percent(seed, 20) {
-        return between(seed, 1, CONTRACTS);
-    }
-    let day = image.cell(DAY, ZONE);
-    (day.wrapping_add(below(seed, 3)) % CONTRACTS).wrapping_add(1)
-}
-
-// ── Prices ──────────────────────────────────────────────────────────────────────────────────────
-
 fn steps(n: u64) -> u64 {
     PRICE_STEP.wrapping_mul(n)
 }
 
-// The ends of the range of prices, and one step beyond each.
-pub fn price_edge(seed: &mut u64) -> u64 {
-    let draw = below(seed, 6);
-    if draw < 3 {
-        return steps(draw);
-    }
-    (MOST_PRICE - PRICE_STEP).wrapping_add(steps(draw.wrapping_sub(3)))
-}
+impl Draws {
+    // ── Prices ──────────────────────────────────────────────────────────────────────────────────
 
-// Prices of a contract lie near each other, so that bids meet asks.
-pub fn near_price(seed: &mut u64, contract: u64) -> u64 {
-    if percent(seed, 3) {
-        return price_edge(seed);
+    // The ends of the range of prices, and one step beyond each.
+    pub fn price_edge(&mut self) -> u64 {
+        match self.below(6) {
+            draw @ 0..=2 => steps(draw),
+            draw => (MOST_PRICE - PRICE_STEP).wrapping_add(steps(draw.wrapping_sub(3))),
+        }
     }
-    if contract == CHEAP_CONTRACT {
-        return steps(between(seed, 1, 10));
-    }
-    contract
-        .wrapping_mul(500)
-        .wrapping_add(14000)
-        .wrapping_add(steps(below(seed, 20)))
-}
 
-// One step below the standing bid up to four above it.
-pub fn price_beside(seed: &mut u64, standing: u64) -> u64 {
-    standing
-        .wrapping_add(steps(below(seed, 6)))
-        .wrapping_sub(PRICE_STEP)
-}
+    // Prices of a contract lie near each other, so that bids meet asks.
+    pub fn near_price(&mut self, contract: u64) -> u64 {
+        if self.percent(3) {
+            return self.price_edge();
+        }
+        if contract == CHEAP_CONTRACT {
+            return steps(self.between(1, 10));
+        }
+        let least = contract.wrapping_mul(500).wrapping_add(14000);
+        least.wrapping_add(steps(self.below(20)))
+    }
 
-// ── Basis and premium ───────────────────────────────────────────────────────────────────────────
+    // One step below the standing bid up to four above it.
+    pub fn price_beside(&mut self, standing: u64) -> u64 {
+        let above = steps(self.below(6));
+        standing.wrapping_add(above).wrapping_sub(PRICE_STEP)
+    }
 
-// Often an end of the range or a number beside it, or none; else any.
-pub fn some_premium(seed: &mut u64) -> u64 {
-    let draw = below(seed, 100);
-    if draw < 24 {
-        return beside(seed, MOST_PREMIUM.wrapping_neg());
-    }
-    if draw < 48 {
-        return beside(seed, MOST_PREMIUM);
-    }
-    if draw < 60 {
-        return 0;
-    }
-    below(seed, 2 * MOST_PREMIUM + 1).wrapping_sub(MOST_PREMIUM)
-}
+    // ── Basis and premium ───────────────────────────────────────────────────────────────────────
 
-// Price, basis or premium, where the other two are given: such that a tonne costs nothing, or one or two yuan.
-pub fn to_nothing(seed: &mut u64, one: u64, other: u64) -> u64 {
-    below(seed, 3).wrapping_sub(one.wrapping_add(other))
-}
+    // Often an end of the range or a number beside it, or none; else any.
+    pub fn some_premium(&mut self) -> u64 {
+        match self.below(100) {
+            0..=23 => self.beside(MOST_PREMIUM.wrapping_neg()),
+            24..=47 => self.beside(MOST_PREMIUM),
+            48..=59 => 0,
+            _ => self.below(2 * MOST_PREMIUM + 1).wrapping_sub(MOST_PREMIUM),
+        }
+    }
 
-// Now and then an end of the range or one beyond it, or far below 0. At low prices it makes up for the premium, which may be higher.
-pub fn some_basis(seed: &mut u64, contract: u64, premium: u64) -> u64 {
-    let draw = below(seed, 100);
-    if draw < 2 {
-        return MOST_BASIS.wrapping_add(draw);
+    // Price, basis or premium, where the other two are given: such that a tonne costs nothing, or one or two yuan.
+    pub fn to_nothing(&mut self, one: u64, other: u64) -> u64 {
+        self.below(3).wrapping_sub(one.wrapping_add(other))
     }
-    if draw < 4 {
-        return 2u64.wrapping_sub(MOST_BASIS.wrapping_add(draw));
-    }
-    if draw < 7 {
-        return below(seed, MOST_BASIS).wrapping_sub(MOST_BASIS);
-    }
-    if contract == CHEAP_CONTRACT {
-        return below(seed, 80).wrapping_sub(premium.wrapping_add(50));
-    }
-    below(seed, 801).wrapping_sub(400)
-}
 
-// ── Days and weight ─────────────────────────────────────────────────────────────────────────────
+    // Now and then an end of the range or one beyond it, or far below 0. At low prices it makes up for the premium, which may be higher.
+    pub fn some_basis(&mut self, contract: u64, premium: u64) -> u64 {
+        match self.below(100) {
+            draw @ 0..=1 => MOST_BASIS.wrapping_add(draw),
+            draw @ 2..=3 => 2u64.wrapping_sub(MOST_BASIS.wrapping_add(draw)),
+            4..=6 => self.below(MOST_BASIS).wrapping_sub(MOST_BASIS),
+            _ if contract == CHEAP_CONTRACT => {
+                self.below(80).wrapping_sub(premium.wrapping_add(50))
+            }
+            _ => self.below(801).wrapping_sub(400),
+        }
+    }
 
-// Now and then one day too many.
-pub fn some_days(seed: &mut u64) -> u64 {
-    let draw = below(seed, 100);
-    if draw < 2 {
-        return MOST_DAYS + 1;
-    }
-    draw % (MOST_DAYS + 1)
-}
+    // ── Days and weight ─────────────────────────────────────────────────────────────────────────
 
-pub fn some_weight(seed: &mut u64) -> u64 {
-    let draw = below(seed, 100);
-    if draw < 12 {
-        return beside(seed, LEAST_WEIGHT);
+    // Now and then one day too many.
+    pub fn some_days(&mut self) -> u64 {
+        match self.below(100) {
+            0..=1 => MOST_DAYS + 1,
+            draw => draw % (MOST_DAYS + 1),
+        }
     }
-    if draw < 24 {
-        return beside(seed, MOST_WEIGHT);
+
+    pub fn some_weight(&mut self) -> u64 {
+        match self.below(100) {
+            0..=11 => self.beside(LEAST_WEIGHT),
+            12..=23 => self.beside(MOST_WEIGHT),
+            _ => self.between(39000, 43000),
+        }
     }
-    between(seed, 39000, 43000)
 }

@@ -1,7 +1,9 @@
 // A call to be made.
-use ledger_book::{ANSWER_LENGTH, CALL_LENGTH, Cells, IMAGE_LENGTH, Page};
+use crate::lengths::Lengths;
+use ledger_book::Kind;
 
-// A call by its fields, with the lengths of the buffers that it lends. `basis` is a premium where a receipt is registered.
+// A call by its fields, each of which may have any value, with the lengths of the buffers that it lends. `basis` is a premium where a receipt
+// is registered.
 #[derive(Clone, Copy)]
 pub struct Request {
     pub kind: u64,
@@ -13,41 +15,46 @@ pub struct Request {
     pub amount: u64,
     pub basis: u64,
     pub weight: u64,
-    pub image_length: u64,
-    pub call_length: u64,
-    pub answer_length: u64,
+    pub lengths: Lengths,
 }
 
-const IMAGE: u64 = IMAGE_LENGTH as u64;
-
-const CALL: u64 = CALL_LENGTH as u64;
-
-const ANSWER: u64 = ANSWER_LENGTH as u64;
-
-pub fn request_of(kind: u64, account: u64, receipt: u64, amount: u64) -> Request {
-    Request {
-        kind: kind,
-        account: account,
-        receipt: receipt,
-        contract: 0,
-        days: 0,
-        zeros: 0,
-        amount: amount,
-        basis: 0,
-        weight: 0,
-        image_length: IMAGE,
-        call_length: CALL,
-        answer_length: ANSWER,
+impl Request {
+    pub fn new(kind: Kind, account: u64, receipt: u64, amount: u64) -> Request {
+        Request {
+            kind: kind as u64,
+            account,
+            receipt,
+            contract: 0,
+            days: 0,
+            zeros: 0,
+            amount,
+            basis: 0,
+            weight: 0,
+            lengths: Lengths::of_calls(1),
+        }
     }
-}
 
-pub fn quote_of(contract: u64, ask: u64) -> Request {
-    let mut q = request_of(9, 0, 0, ask);
-    q.contract = contract;
-    q
-}
+    pub fn quote(contract: u64, ask: u64) -> Request {
+        Request {
+            contract,
+            ..Request::new(Kind::Quote, 0, 0, ask)
+        }
+    }
 
-// The full payment of a lot, as the image has it.
-pub fn full_of(image: &Page, lot: u64) -> u64 {
-    image.full_payment(lot)
+    pub fn close(kind: Kind) -> Request {
+        Request::new(kind, 0, 0, 0)
+    }
+
+    pub fn kind(&self) -> Option<Kind> {
+        Kind::try_from(self.kind).ok()
+    }
+
+    // The kind and the lot that the call record has: one byte each.
+    pub fn kind_byte(&self) -> u64 {
+        self.kind % 256
+    }
+
+    pub fn lot(&self) -> u64 {
+        self.receipt % 256
+    }
 }

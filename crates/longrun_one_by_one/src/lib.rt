@@ -2,192 +2,112 @@
 // must leave (02 5/12).
 #![tactic(auto)]
 
-use ledger_book::{Answers, MOST_CALLS, Page};
-use longrun_call_tables::{call_in_table, count_table, some_table, table_of};
-use longrun_calls::{Plan, opening_calls};
-use longrun_counts::{Tally, Verdict, count_call, show};
-use longrun_draws::{CallTable, Request, calls_in, percent, request_of};
-use longrun_sides::{drive, drive_table, filled, filled_answers, record_of};
-use longrun_wild::alter;
+use ledger_book::{MOST_CALLS, Page};
+use longrun_call_tables::{call_in_table, count_table, some_table};
+use longrun_calls::{Chooser, Plan};
+use longrun_counts::Report;
+use longrun_draws::{Draws, Lengths, Request};
+use longrun_sides::{MadeAlone, Sides, filled_answers, record_of};
+use longrun_wild::Alteration;
 use std::io;
 
-// ── Calls by themselves ─────────────────────────────────────────────────────────────────────────
+// Makes tables of a run's calls, on the run's own images or on an altered copy.
+#[derive(Drop)]
+pub struct TableMaker<'a, R: Print> {
+    pub report: Report<'a, R>,
+    pub draws: &'a mut Draws,
+    pub plan: Plan,
+    pub sides: &'a mut Sides,
+    pub altered: bool,
+}
 
-// On an altered image a call is not counted, only shown where both sides differ.
-fn count_alone(
-    rt: &impl Print,
-    altered: bool,
-    q: Request,
-    v: Verdict,
-    before: &Page,
-    image: &Page,
-    answer: &Page,
-    tally: &mut Tally,
-) -> io::Result<()> {
-    if altered {
-        return show(
-            rt,
-            "difference at an altered image after call ",
-            "  kind ",
-            q.kind % 256,
-            v,
-            tally,
-        );
+impl<R: Print> TableMaker<'_, R> {
+    // ── Calls by themselves ─────────────────────────────────────────────────────────────────────
+
+    // The table's call with this number. On an altered image a call is not counted, only shown where both sides differ.
+    fn make_alone(&mut self, k: u64, request: Request, alone: &mut MadeAlone) -> io::Result<()> {
+        let made = Sides::on(&alone.image).drive(request);
+        alone.image = made.after;
+        alone.records.put_record(k, &record_of(&request));
+        alone.answers.put(k, &made.answer);
+        if self.altered {
+            return self.report.show_at_altered(&made);
+        }
+        self.report.count_call(&made)
     }
-    count_call(rt, q, v, before, image, answer, tally)
-}
 
-// The table's call with this number, made by itself; its record and its answer go to their places.
-fn make_alone(
-    rt: &impl Print,
-    q: Request,
-    altered: bool,
-    k: u64,
-    image: &mut Page,
-    calls: &mut Page,
-    answers: &mut Answers,
-    tally: &mut Tally,
-) -> io::Result<()> {
-    let before: Page = *image;
-    let mut second: Page = *image;
-    let mut answer: Page = filled();
-    let record: Page = record_of(q);
-    let v = drive(q, image, &mut second, &mut answer);
-    calls.put_record(k, &record);
-    answers.put(k, &answer);
-    count_alone(rt, altered, q, v, &before, image, &answer, tally)
-}
-
-// Each is the run's next call from number `first` on, drawn by the image that it will find where the opening has none.
-fn make_each_alone(
-    rt: &impl Print,
-    seed: &mut u64,
-    plan: Plan,
-    t: CallTable,
-    first: u64,
-    altered: bool,
-    image: &mut Page,
-    calls: &mut Page,
-    answers: &mut Answers,
-    tally: &mut Tally,
-) -> io::Result<()> {
-    for k in 0..calls_in(t) {
-        let q = call_in_table(seed, plan, t, first.wrapping_add(k), image);
-        make_alone(rt, q, altered, k, image, calls, answers, tally)?;
+    // Each is the run's next call from number `first` on, drawn by the image that it will find where the opening has none.
+    fn make_each_alone(&mut self, lengths: Lengths, first: u64) -> io::Result<MadeAlone> {
+        let mut alone = MadeAlone {
+            lengths,
+            records: Page::filled(0),
+            image: self.sides.image,
+            answers: filled_answers(),
+        };
+        for k in 0..lengths.whole_calls() {
+            let mut chooser = Chooser {
+                draws: self.draws,
+                plan: self.plan,
+                image: &alone.image,
+            };
+            let request = call_in_table(&mut chooser, lengths, first.wrapping_add(k));
+            self.make_alone(k, request, &mut alone)?;
+        }
+        Ok(alone)
     }
-    Ok(())
-}
 
-// Whether a call on as much of the image as the table lends has number 2. One of no kind has 3 on a valid image.
-fn is_bad_image(t: CallTable, image: &Page) -> bool {
-    let mut copy: Page = *image;
-    let mut second: Page = *image;
-    let mut answer: Page = filled();
-    let mut q = request_of(0, 0, 0, 0);
-    q.image_length = t.image_length;
-    let v = drive(q, &mut copy, &mut second, &mut answer);
-    v.of_library == 2
-}
+    // ── Tables ──────────────────────────────────────────────────────────────────────────────────
 
-// ── Tables ──────────────────────────────────────────────────────────────────────────────────────
-
-fn hand_over(
-    rt: &impl Print,
-    t: CallTable,
-    calls: &Page,
-    wanted: &Page,
-    wanted_answers: &Answers,
-    image: &mut Page,
-    second: &mut Page,
-    tally: &mut Tally,
-) -> io::Result<()> {
-    let bad_image = is_bad_image(t, image);
-    let mut answers: Answers = filled_answers();
-    let v = drive_table(
-        t,
-        calls,
-        wanted,
-        wanted_answers,
-        image,
-        second,
-        &mut answers,
-    );
-    count_table(rt, t, v, bad_image, &answers, tally)
-}
-
-fn make_table(
-    rt: &impl Print,
-    seed: &mut u64,
-    plan: Plan,
-    t: CallTable,
-    first: u64,
-    altered: bool,
-    image: &mut Page,
-    second: &mut Page,
-    tally: &mut Tally,
-) -> io::Result<()> {
-    let mut wanted: Page = *image;
-    let mut calls: Page = Page::filled(0);
-    let mut answers: Answers = filled_answers();
-    make_each_alone(
-        rt,
-        seed,
-        plan,
-        t,
-        first,
-        altered,
-        &mut wanted,
-        &mut calls,
-        &mut answers,
-        tally,
-    )?;
-    hand_over(rt, t, &calls, &wanted, &answers, image, second, tally)
-}
-
-// On the run's own image, or on an altered copy; the run then goes on with the image as it was.
-pub fn make_some_table(
-    rt: &impl Print,
-    seed: &mut u64,
-    plan: Plan,
-    image: &mut Page,
-    second: &mut Page,
-    tally: &mut Tally,
-) -> io::Result<()> {
-    let t = some_table(seed);
-    let opened = opening_calls(plan.opening);
-    if percent(seed, 75) {
-        return make_table(rt, seed, plan, t, opened, false, image, second, tally);
+    fn make_table(&mut self, lengths: Lengths, first: u64) -> io::Result<()> {
+        let alone = self.make_each_alone(lengths, first)?;
+        let made = self.sides.drive_table(&alone);
+        count_table(&made, self.report.tally);
+        self.report.show(
+            "difference at a table of calls after call ",
+            "  calls in it ",
+            lengths.whole_calls(),
+            made.verdict.difference,
+        )
     }
-    let mut copy: Page = *image;
-    alter(seed, plan, &mut copy);
-    let mut second_copy: Page = copy;
-    make_table(
-        rt,
-        seed,
-        plan,
-        t,
-        opened,
-        true,
-        &mut copy,
-        &mut second_copy,
-        tally,
-    )
-}
 
-// The calls of the run's opening, as many to a table as there may be.
-pub fn open(
-    rt: &impl Print,
-    seed: &mut u64,
-    plan: Plan,
-    image: &mut Page,
-    second: &mut Page,
-    tally: &mut Tally,
-) -> io::Result<()> {
-    let t = table_of(MOST_CALLS);
-    let tables = opening_calls(plan.opening).wrapping_add(MOST_CALLS - 1) / MOST_CALLS;
-    for k in 0..tables {
-        let first = k.wrapping_mul(MOST_CALLS);
-        make_table(rt, seed, plan, t, first, false, image, second, tally)?;
+    fn make_altered_table(&mut self, lengths: Lengths, first: u64) -> io::Result<()> {
+        let mut copy = self.sides.image;
+        let mut alteration = Alteration {
+            draws: self.draws,
+            plan: self.plan,
+            image: &mut copy,
+        };
+        alteration.alter();
+        let mut sides = Sides::on(&copy);
+        let mut on_copy = TableMaker {
+            report: Report {
+                rt: self.report.rt,
+                tally: self.report.tally,
+            },
+            draws: self.draws,
+            plan: self.plan,
+            sides: &mut sides,
+            altered: true,
+        };
+        on_copy.make_table(lengths, first)
     }
-    Ok(())
+
+    // On the run's own images, or on an altered copy; the run then goes on with the image as it was.
+    pub fn make_some_table(&mut self) -> io::Result<()> {
+        let lengths = some_table(self.draws);
+        let opened = self.plan.opening_calls();
+        if self.draws.percent(75) {
+            return self.make_table(lengths, opened);
+        }
+        self.make_altered_table(lengths, opened)
+    }
+
+    // The calls of the run's opening, as many to a table as there may be.
+    pub fn open(&mut self) -> io::Result<()> {
+        let tables = self.plan.opening_calls().div_ceil(MOST_CALLS);
+        for k in 0..tables {
+            self.make_table(Lengths::of_calls(MOST_CALLS), k.wrapping_mul(MOST_CALLS))?;
+        }
+        Ok(())
+    }
 }

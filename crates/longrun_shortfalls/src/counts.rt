@@ -1,149 +1,171 @@
 // What an asking has reached.
-use crate::owing::{
-    BELOW_DEPOSIT, FEN, LODGED, Owing, PENALTY, STRUCK, add_lot, class_of, figure_of, owing_of,
-};
+use crate::owing::{Owing, due_lot};
 use ledger_book::{
-    ACCOUNTS, Cells, DAY, DUE, FIGURES_LENGTH, IMAGE_LENGTH, PHASE, Page, RECEIPTS, STATE, ZONE,
+    ACCOUNTS, Cells, DAY, DUE, FIGURES_LENGTH, IMAGE_LENGTH, PHASE, Page, RECEIPTS, ZONE,
 };
-use longrun_counts::{
-    ASKED, ASKED_NUMBERS, CLOSE_LOTS, COUNTS_OF_CLOSE, FIGURES_ROOM, OWING, OWING_CLASSES,
-    SHORT_ABOVE_U32, SHORT_BELOW_DEPOSIT, SHORT_FIRST, SHORT_LAST, SHORT_ONE_FEN, Tally, add,
-    count_where,
-};
+use longrun_counts::{Asked, Tally};
 
 // ── Lengths and images ──────────────────────────────────────────────────────────────────────────
 
-const FIGURES: u64 = FIGURES_LENGTH as u64;
-
-fn room_class(room: u64) -> u64 {
-    if room == 0 {
-        return 0;
-    }
-    if room < FIGURES - 1 {
-        return 1;
-    }
-    if room <= FIGURES + 1 {
-        return room.wrapping_sub(FIGURES - 3);
-    }
-    5
+// The bytes for figures; in the order of the tally's columns.
+#[derive(Clone, Copy)]
+enum FiguresRoom {
+    NoRoom,
+    TooFew,
+    OneTooFew,
+    Exact,
+    OneToSpare,
+    More,
 }
 
-// The classes of images and of bytes for figures are in the order of the tally.
-fn image_class(image: &Page, image_length: u64, bad: bool) -> u64 {
+const FIGURES: u64 = FIGURES_LENGTH as u64;
+
+const ONE_TOO_FEW: u64 = FIGURES - 1;
+
+const ONE_TO_SPARE: u64 = FIGURES + 1;
+
+fn figures_room(room: u64) -> FiguresRoom {
+    match room {
+        0 => FiguresRoom::NoRoom,
+        1..ONE_TOO_FEW => FiguresRoom::TooFew,
+        ONE_TOO_FEW => FiguresRoom::OneTooFew,
+        FIGURES => FiguresRoom::Exact,
+        ONE_TO_SPARE => FiguresRoom::OneToSpare,
+        _ => FiguresRoom::More,
+    }
+}
+
+// In the order of the tally's rows.
+#[derive(Clone, Copy)]
+enum AskedImage {
+    ValidInMorning,
+    ValidInAfternoon,
+    OfOtherLength,
+    BadInMorning,
+    BadInAfternoon,
+}
+
+fn is_afternoon(image: &Page) -> bool {
+    image.cell(PHASE, ZONE) != 0
+}
+
+fn asked_image(image: &Page, image_length: u64, bad: bool) -> AskedImage {
     if image_length != IMAGE_LENGTH as u64 {
-        return 2;
+        return AskedImage::OfOtherLength;
     }
-    let afternoon = image.cell(PHASE, ZONE) != 0;
-    let mut class: u64 = 0;
-    if bad {
-        class = 3;
+    match (bad, is_afternoon(image)) {
+        (false, false) => AskedImage::ValidInMorning,
+        (false, true) => AskedImage::ValidInAfternoon,
+        (true, false) => AskedImage::BadInMorning,
+        (true, true) => AskedImage::BadInAfternoon,
     }
-    if afternoon {
-        class = class.wrapping_add(1);
-    }
-    class
 }
 
 // `bad` is what the image is found to be with room for the figures.
-pub fn count_asking(
-    image: &Page,
-    image_length: u64,
-    room: u64,
-    bad: bool,
-    number: u64,
-    tally: &mut Tally,
-) {
-    let row = image_class(image, image_length, bad).wrapping_mul(ASKED_NUMBERS);
-    add(tally, ASKED.wrapping_add(row.wrapping_add(number)), 1);
-    add(tally, FIGURES_ROOM.wrapping_add(room_class(room)), 1);
+pub fn count_asking(image: &Page, asked: &Asked, bad: bool, tally: &mut Tally) {
+    let row = asked_image(image, asked.image_length, bad);
+    tally.asked.add(row as u64, asked.verdict.number);
+    tally.figures_room.add(figures_room(asked.room) as u64);
 }
 
 // ── Lots ────────────────────────────────────────────────────────────────────────────────────────
 
-// Columns of a morning come first, those of lots that are due before the others.
-const MORNING_DUE_END: u64 = 2;
+// When a close works a lot, as a morning sees it, and then as an afternoon does; in the order of the tally's columns.
+#[derive(Clone, Copy, PartialEq, Eq)]
+enum DueTime {
+    Earlier,
+    Today,
+    Tomorrow,
+    Later,
+    UpToToday,
+    AfterToday,
+}
 
-const AFTERNOON: u64 = 4;
-
-fn due_column(image: &Page, lot: u64) -> u64 {
+fn due_time(image: &Page, lot: u64) -> DueTime {
     let day = image.cell(DAY, ZONE);
     let due = image.cell(DUE, lot);
-    if image.cell(PHASE, ZONE) != 0 {
-        if due <= day {
-            return AFTERNOON;
-        }
-        return AFTERNOON + 1;
+    if is_afternoon(image) {
+        return if due <= day {
+            DueTime::UpToToday
+        } else {
+            DueTime::AfterToday
+        };
     }
     if due < day {
-        return 0;
+        return DueTime::Earlier;
     }
-    if due > day.wrapping_add(1) {
-        return 3;
-    }
-    due.wrapping_sub(day).wrapping_add(1)
-}
-
-fn count_lot(image: &Page, lot: u64, what: u64, owing: &mut Owing, tally: &mut Tally) {
-    let column = due_column(image, lot);
-    let row = what.wrapping_mul(COUNTS_OF_CLOSE);
-    add(tally, CLOSE_LOTS.wrapping_add(row.wrapping_add(column)), 1);
-    if column < MORNING_DUE_END {
-        add_lot(owing, image, lot, what);
+    match due.wrapping_sub(day) {
+        0 => DueTime::Today,
+        1 => DueTime::Tomorrow,
+        _ => DueTime::Later,
     }
 }
 
-fn count_in_state(image: &Page, lot: u64, owing: &mut Owing, tally: &mut Tally) {
-    let state = image.cell(STATE, lot);
-    match state {
-        3 => count_lot(image, lot, STRUCK, owing, tally),
-        4 => count_lot(image, lot, LODGED, owing, tally),
-        7 => count_lot(image, lot, PENALTY, owing, tally),
-        _ => {}
+// Counts the lots of a valid image; what the next morning close takes is added up on the way.
+pub fn count_lots(image: &Page, tally: &mut Tally) -> Owing {
+    let mut owing = Owing::nothing();
+    for lot in 1..=RECEIPTS {
+        if let Some(due) = due_lot(image, lot) {
+            let time = due_time(image, lot);
+            tally.close_lots.add(due as u64, time as u64);
+            if time == DueTime::Earlier || time == DueTime::Today {
+                owing.add_lot(image, lot, due);
+            }
+        }
     }
-}
-
-// Counts the lots of a valid image; what is owing is added up on the way.
-pub fn count_lots(image: &Page, owing: &mut Owing, tally: &mut Tally) {
-    for lot in 1..RECEIPTS + 1 {
-        count_in_state(image, lot, owing, tally);
-    }
+    owing
 }
 
 // ── Accounts ────────────────────────────────────────────────────────────────────────────────────
 
-fn owing_row(figure: u64, fen: u64) -> u64 {
-    if figure != 0 {
-        return 0;
-    }
-    if fen != 0 {
-        return 1;
-    }
-    2
+// In the order of the tally's rows.
+#[derive(Clone, Copy)]
+enum OwingRow {
+    LacksMoney,
+    HasEnough,
+    NothingTaken,
 }
 
-fn count_figure(figure: u64, owing: &Owing, account: u64, tally: &mut Tally) {
-    let below_deposit = owing_of(owing, account, BELOW_DEPOSIT) != 0;
+// In the order of the tally's columns.
+#[derive(Clone, Copy)]
+enum ShortCount {
+    OneFen,
+    BelowDeposit,
+    FirstAccount,
+    LastAccount,
+    AboveU32,
+}
+
+fn count_figure(figure: u64, below_deposit: bool, account: u64, tally: &mut Tally) {
     let is_short = figure != 0;
-    count_where(tally, SHORT_ONE_FEN, figure == 1);
-    count_where(tally, SHORT_BELOW_DEPOSIT, is_short & below_deposit);
-    count_where(tally, SHORT_FIRST, is_short & (account == 1));
-    count_where(tally, SHORT_LAST, is_short & (account == ACCOUNTS));
-    count_where(tally, SHORT_ABOVE_U32, figure > 4294967295);
+    let counts = [
+        (ShortCount::OneFen, figure == 1),
+        (ShortCount::BelowDeposit, is_short && below_deposit),
+        (ShortCount::FirstAccount, is_short && account == 1),
+        (ShortCount::LastAccount, is_short && account == ACCOUNTS),
+        (ShortCount::AboveU32, figure > 4294967295),
+    ];
+    for (what, is_so) in counts {
+        tally.short.add_many(what as u64, u64::from(is_so));
+    }
 }
 
 fn count_account(image: &Page, owing: &Owing, account: u64, tally: &mut Tally) {
-    let figure = figure_of(image, owing, account);
-    let class = class_of(owing, account);
-    let row = owing_row(figure, owing_of(owing, account, FEN));
-    if class < OWING_CLASSES {
-        let before = row.wrapping_mul(OWING_CLASSES);
-        add(tally, OWING.wrapping_add(before.wrapping_add(class)), 1);
+    let dues = owing.of(account);
+    let figure = owing.figure_of(image, account);
+    let row = match figure {
+        0 if dues.takes_money() => OwingRow::HasEnough,
+        0 => OwingRow::NothingTaken,
+        _ => OwingRow::LacksMoney,
+    };
+    if let Some(class) = dues.class() {
+        tally.owing.add(row as u64, class as u64);
     }
-    count_figure(figure, owing, account, tally);
+    count_figure(figure, dues.has_any_below_deposit(), account, tally);
 }
 
 pub fn count_accounts(image: &Page, owing: &Owing, tally: &mut Tally) {
-    for account in 1..ACCOUNTS + 1 {
+    for account in 1..=ACCOUNTS {
         count_account(image, owing, account, tally);
     }
 }

@@ -1,12 +1,12 @@
 // Copies of a run's image in which more is due, or less money is there for it, and buffers of any length for the figures.
-use crate::owing::is_trade;
+use crate::owing::{DueLot, due_lot};
 use ledger_book::{
     ACCOUNTS, BUYER, Cells, DAY, DEPOSIT, FIGURES_LENGTH, FREE, FROZEN, IMAGE_LENGTH, LAST_DAY,
     MOST_DAYS, MOST_PRICE, PAGE_LENGTH, PHASE, PRICE, Page, RECEIPTS, SELLER, TOTAL, ZONE,
 };
 use longrun_calls::Plan;
-use longrun_draws::{below, between, percent, raise_cell};
-use longrun_wild::{alter, odd_length};
+use longrun_draws::{Draws, raise};
+use longrun_wild::{Alteration, odd_length};
 
 const FIGURES: u64 = FIGURES_LENGTH as u64;
 
@@ -15,98 +15,111 @@ const PAGE: u64 = PAGE_LENGTH as u64;
 // ── Lengths ─────────────────────────────────────────────────────────────────────────────────────
 
 // Another length than the figures have, or theirs.
-pub fn some_room(seed: &mut u64) -> u64 {
-    let draw = below(seed, 6);
-    match draw {
+pub fn some_room(draws: &mut Draws) -> u64 {
+    match draws.below(6) {
         0 => 0,
         1 => FIGURES - 1,
         2 => FIGURES + 1,
-        3 => below(seed, FIGURES),
-        4 => between(seed, FIGURES, PAGE),
+        3 => draws.below(FIGURES),
+        4 => draws.between(FIGURES, PAGE),
         _ => FIGURES,
     }
 }
 
 // Now and then an image of a wrong length.
-pub fn some_image_length(seed: &mut u64) -> u64 {
-    if percent(seed, 8) {
-        return odd_length(seed, IMAGE_LENGTH);
+pub fn some_image_length(draws: &mut Draws) -> u64 {
+    if draws.percent(8) {
+        return odd_length(draws, IMAGE_LENGTH);
     }
     IMAGE_LENGTH as u64
 }
 
 // ── Images ──────────────────────────────────────────────────────────────────────────────────────
 
-// Another day, with the lots as they are: some have then been due for days, which no run of calls brings about.
-fn move_day(seed: &mut u64, image: &mut Page) {
-    let day_before = image.cell(DAY, ZONE).wrapping_sub(1);
-    let day = day_before.wrapping_add(below(seed, MOST_DAYS + 2));
-    if (1..=LAST_DAY).contains(&day) {
-        image.set(DAY, ZONE, day);
+// A trade goes to this buyer, at the highest price.
+fn give_trade(image: &mut Page, lot: u64, buyer: u64) {
+    let old = image.cell(BUYER, lot);
+    let is_trade = due_lot(image, lot).is_some_and(DueLot::is_trade);
+    if is_trade && image.cell(SELLER, lot) != buyer {
+        raise(image, FROZEN, old, DEPOSIT.wrapping_neg());
+        raise(image, FROZEN, buyer, DEPOSIT);
+        image.set(BUYER, lot, buyer);
+        image.set(PRICE, lot, MOST_PRICE);
     }
 }
 
 // About as much as a full payment of the runs asks for.
 const LITTLE: u64 = 70000000;
 
-fn leave_little(seed: &mut u64, image: &mut Page, account: u64) {
-    let left = below(seed, LITTLE);
-    let taken = image.cell(FREE, account).wrapping_sub(left);
-    if left < image.cell(FREE, account) {
-        raise_cell(image, FREE, account, taken.wrapping_neg());
-        raise_cell(image, TOTAL, ZONE, taken.wrapping_neg());
-    }
+// Varies a copy of a run's image.
+#[derive(Drop)]
+pub struct Variation<'a> {
+    pub draws: &'a mut Draws,
+    pub plan: Plan,
+    pub image: &'a mut Page,
 }
 
-fn take_money(seed: &mut u64, image: &mut Page) {
-    for account in 1..ACCOUNTS + 1 {
-        leave_little(seed, image, account);
+impl Variation<'_> {
+    // Another day, with the lots as they are: some have then been due for days, which no run of calls brings about.
+    fn move_day(&mut self) {
+        let day_before = self.image.cell(DAY, ZONE).wrapping_sub(1);
+        let day = day_before.wrapping_add(self.draws.below(MOST_DAYS + 2));
+        if (1..=LAST_DAY).contains(&day) {
+            self.image.set(DAY, ZONE, day);
+        }
     }
-}
 
-// A trade goes to this buyer, at the highest price.
-fn give_trade(image: &mut Page, lot: u64, buyer: u64) {
-    let old = image.cell(BUYER, lot);
-    if is_trade(image, lot) & (image.cell(SELLER, lot) != buyer) {
-        raise_cell(image, FROZEN, old, DEPOSIT.wrapping_neg());
-        raise_cell(image, FROZEN, buyer, DEPOSIT);
-        image.set(BUYER, lot, buyer);
-        image.set(PRICE, lot, MOST_PRICE);
+    fn leave_little(&mut self, account: u64) {
+        let left = self.draws.below(LITTLE);
+        let free = self.image.cell(FREE, account);
+        if left < free {
+            raise(self.image, FREE, account, left.wrapping_sub(free));
+            raise(self.image, TOTAL, ZONE, left.wrapping_sub(free));
+        }
     }
-}
 
-// One buyer for all trades: the sum of their full payments then needs more than 32 bits.
-fn give_trades(seed: &mut u64, image: &mut Page, accounts: u64) {
-    let buyer = between(seed, 1, accounts);
-    for lot in 1..RECEIPTS + 1 {
-        give_trade(image, lot, buyer);
+    fn take_money(&mut self) {
+        for account in 1..=ACCOUNTS {
+            self.leave_little(account);
+        }
     }
-}
 
-// Mostly a morning.
-fn set_phase(seed: &mut u64, image: &mut Page) {
-    let draw = below(seed, 100);
-    if draw < 60 {
-        image.set(PHASE, ZONE, 0);
+    // One buyer for all trades: the sum of their full payments then needs more than 32 bits.
+    fn give_trades(&mut self) {
+        let buyer = self.draws.between(1, self.plan.accounts);
+        for lot in 1..=RECEIPTS {
+            give_trade(self.image, lot, buyer);
+        }
     }
-    if draw >= 90 {
-        image.set(PHASE, ZONE, 1);
-    }
-}
 
-// The image as it is, or valid with another day, other money, one buyer or another phase; now and then with a field out of place.
-pub fn make_up(seed: &mut u64, plan: Plan, image: &mut Page) {
-    if percent(seed, 60) {
-        move_day(seed, image);
+    // Mostly a morning.
+    fn set_phase(&mut self) {
+        match self.draws.below(100) {
+            0..=59 => self.image.set(PHASE, ZONE, 0),
+            60..=89 => {}
+            _ => self.image.set(PHASE, ZONE, 1),
+        }
     }
-    if percent(seed, 40) {
-        take_money(seed, image);
-    }
-    if percent(seed, 5) {
-        give_trades(seed, image, plan.accounts);
-    }
-    set_phase(seed, image);
-    if percent(seed, 15) {
-        alter(seed, plan, image);
+
+    // The image as it is, or valid with another day, other money, one buyer or another phase; now and then with a field out of place.
+    pub fn vary(&mut self) {
+        if self.draws.percent(60) {
+            self.move_day();
+        }
+        if self.draws.percent(40) {
+            self.take_money();
+        }
+        if self.draws.percent(5) {
+            self.give_trades();
+        }
+        self.set_phase();
+        if self.draws.percent(15) {
+            let mut alteration = Alteration {
+                draws: self.draws,
+                plan: self.plan,
+                image: self.image,
+            };
+            alteration.alter();
+        }
     }
 }

@@ -7,6 +7,6 @@ mod owing;
 mod rows;
 
 pub use counts::{count_accounts, count_asking, count_lots};
-pub use draws::{make_up, some_image_length, some_room};
-pub use owing::{Owing, are_right, class_of, is_trade, nothing_owing};
+pub use draws::{Variation, some_image_length, some_room};
+pub use owing::{DueLot, Owing, OwingClass, due_lot};
 pub use rows::print_shortfalls;

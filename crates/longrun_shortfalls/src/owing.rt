@@ -1,120 +1,138 @@
 // What the due lots of an image take from each account in a morning, added up lot by lot (02 6/12).
-use ledger_book::{ACCOUNTS, BUYER, Cells, DEPOSIT, FREE, Page, SELLER, SHORTFALL, STATE};
-use longrun_counts::OWING_CLASSES;
-use longrun_draws::full_of;
+use ledger_book::{ACCOUNTS, BUYER, Cells, DEPOSIT, FREE, Page, SELLER, SHORTFALL, State};
 
-// Of each account: its due lots that are struck, lodged, with a penalty; those whose full payment lies below the deposit; the fen that
-// they take.
-pub const STRUCK: u64 = 0;
-
-pub const LODGED: u64 = 1;
-
-pub const PENALTY: u64 = 2;
-
-pub const BELOW_DEPOSIT: u64 = 3;
-
-pub const FEN: u64 = 4;
-
-const SUMS: u64 = 5;
-
-const OWING_LENGTH: usize = (SUMS * (ACCOUNTS + 1)) as usize;
-
-pub type Owing = [u64; OWING_LENGTH];
-
-pub fn nothing_owing() -> Owing {
-    [0; OWING_LENGTH]
+// A lot that a close works, by what it has; in the order of the tally's rows.
+#[derive(Clone, Copy, PartialEq, Eq)]
+pub enum DueLot {
+    Struck,
+    Lodged,
+    Penalty,
 }
 
-// Struck or lodged.
-pub fn is_trade(image: &Page, lot: u64) -> bool {
-    (3..=4).contains(&image.cell(STATE, lot))
-}
-
-pub fn owing_of(owing: &Owing, account: u64, sum: u64) -> u64 {
-    let at = account.wrapping_mul(SUMS).wrapping_add(sum) as usize;
-    if at < OWING_LENGTH {
-        return owing[at];
-    }
-    0
-}
-
-fn add_owing(owing: &mut Owing, account: u64, sum: u64, by: u64) {
-    let at = account.wrapping_mul(SUMS).wrapping_add(sum) as usize;
-    let value = owing_of(owing, account, sum).wrapping_add(by);
-    if at < OWING_LENGTH {
-        owing[at] = value;
+pub fn due_lot(image: &Page, lot: u64) -> Option<DueLot> {
+    match image.state(lot) {
+        Some(State::Struck) => Some(DueLot::Struck),
+        Some(State::Lodged) => Some(DueLot::Lodged),
+        Some(State::PenaltyDue) => Some(DueLot::Penalty),
+        _ => None,
     }
 }
 
-fn add_trade(owing: &mut Owing, buyer: u64, full: u64) {
-    if full < DEPOSIT {
-        add_owing(owing, buyer, BELOW_DEPOSIT, 1);
-    } else {
-        add_owing(owing, buyer, FEN, full.wrapping_sub(DEPOSIT));
+impl DueLot {
+    pub fn is_trade(self) -> bool {
+        self != DueLot::Penalty
     }
 }
 
-// A due lot that is struck, lodged or has a penalty.
-pub fn add_lot(owing: &mut Owing, image: &Page, lot: u64, what: u64) {
-    let seller = image.cell(SELLER, lot);
-    let buyer = image.cell(BUYER, lot);
-    if what == PENALTY {
-        add_owing(owing, seller, PENALTY, 1);
-        add_owing(owing, seller, FEN, DEPOSIT);
-    } else {
-        add_owing(owing, buyer, what, 1);
-        add_trade(owing, buyer, full_of(image, lot));
+// ── One account ─────────────────────────────────────────────────────────────────────────────────
+
+// By an account's due lots; in the order of the tally's columns.
+#[derive(Clone, Copy, PartialEq, Eq)]
+pub enum OwingClass {
+    OneStruck,
+    OneLodged,
+    OnePenalty,
+    SeveralTrades,
+    SeveralPenalties,
+    TradesAndPenalties,
+}
+
+// An account's due lots that are struck, lodged, with a penalty; those whose full payment lies below the deposit; the fen that they take.
+#[derive(Clone, Copy)]
+pub struct Dues {
+    struck: u64,
+    lodged: u64,
+    penalties: u64,
+    below_deposit: u64,
+    fen: u64,
+}
+
+impl Dues {
+    const NONE: Dues = Dues {
+        struck: 0,
+        lodged: 0,
+        penalties: 0,
+        below_deposit: 0,
+        fen: 0,
+    };
+
+    // None where nothing is due.
+    pub fn class(&self) -> Option<OwingClass> {
+        match (self.struck, self.lodged, self.penalties) {
+            (0, 0, 0) => None,
+            (1, 0, 0) => Some(OwingClass::OneStruck),
+            (0, 1, 0) => Some(OwingClass::OneLodged),
+            (0, 0, 1) => Some(OwingClass::OnePenalty),
+            (_, _, 0) => Some(OwingClass::SeveralTrades),
+            (0, 0, _) => Some(OwingClass::SeveralPenalties),
+            _ => Some(OwingClass::TradesAndPenalties),
+        }
+    }
+
+    pub fn has_any_below_deposit(&self) -> bool {
+        self.below_deposit != 0
+    }
+
+    pub fn takes_money(&self) -> bool {
+        self.fen != 0
+    }
+
+    fn add_penalty(&mut self) {
+        self.penalties = self.penalties.wrapping_add(1);
+        self.fen = self.fen.wrapping_add(DEPOSIT);
+    }
+
+    // The buyer's part in a trade: what the deposit doesn't cover of the full payment.
+    fn add_trade(&mut self, full: u64, lodged: bool) {
+        let below_deposit = full < DEPOSIT;
+        self.struck = self.struck.wrapping_add(u64::from(!lodged));
+        self.lodged = self.lodged.wrapping_add(u64::from(lodged));
+        self.below_deposit = self.below_deposit.wrapping_add(u64::from(below_deposit));
+        self.fen = self.fen.wrapping_add(full.saturating_sub(DEPOSIT));
     }
 }
 
-// The run's own figure: what is owing less the free money.
-pub fn figure_of(image: &Page, owing: &Owing, account: u64) -> u64 {
-    let fen = owing_of(owing, account, FEN);
-    let free = image.cell(FREE, account);
-    if fen > free {
-        return fen.wrapping_sub(free);
-    }
-    0
+// ── All accounts ────────────────────────────────────────────────────────────────────────────────
+
+#[derive(Drop)]
+pub struct Owing {
+    accounts: [Dues; ACCOUNTS as usize],
 }
 
-// Whether the figures are the run's own, whatever both sides agree on.
-pub fn are_right(image: &Page, owing: &Owing, figures: &Page) -> bool {
-    let mut right = true;
-    for account in 1..ACCOUNTS + 1 {
-        let figure = figures.cell(SHORTFALL, account);
-        right = right & (figure == figure_of(image, owing, account));
+impl Owing {
+    pub fn nothing() -> Owing {
+        Owing {
+            accounts: [Dues::NONE; ACCOUNTS as usize],
+        }
     }
-    right
-}
 
-// ── Classes of accounts ─────────────────────────────────────────────────────────────────────────
-
-// By its due lots: the first three classes have one, which is struck, lodged or has a penalty.
-pub const ONE_PENALTY: u64 = 2;
-
-pub const SEVERAL_TRADES: u64 = 3;
-
-pub const SEVERAL_PENALTIES: u64 = 4;
-
-pub const TRADES_AND_PENALTIES: u64 = 5;
-
-// Beyond the last class where nothing is due.
-pub fn class_of(owing: &Owing, account: u64) -> u64 {
-    let lodged = owing_of(owing, account, LODGED);
-    let penalties = owing_of(owing, account, PENALTY);
-    let trades = owing_of(owing, account, STRUCK).wrapping_add(lodged);
-    let lots = trades.wrapping_add(penalties);
-    if lots == 0 {
-        return OWING_CLASSES;
+    pub fn of(&self, account: u64) -> Dues {
+        let dues = self.accounts.get(account.wrapping_sub(1) as usize);
+        dues.copied().unwrap_or(Dues::NONE)
     }
-    if lots == 1 {
-        return lodged.wrapping_add(ONE_PENALTY.wrapping_mul(penalties));
+
+    pub fn add_lot(&mut self, image: &Page, lot: u64, due: DueLot) {
+        let party = if due.is_trade() { BUYER } else { SELLER };
+        let account = image.cell(party, lot);
+        let Some(dues) = self.accounts.get_mut(account.wrapping_sub(1) as usize) else {
+            return;
+        };
+        match due {
+            DueLot::Struck => dues.add_trade(image.full_payment(lot), false),
+            DueLot::Lodged => dues.add_trade(image.full_payment(lot), true),
+            DueLot::Penalty => dues.add_penalty(),
+        }
     }
-    if penalties == 0 {
-        return SEVERAL_TRADES;
+
+    // The run's own figure: what is owing less the free money.
+    pub fn figure_of(&self, image: &Page, account: u64) -> u64 {
+        let dues = self.of(account);
+        dues.fen.saturating_sub(image.cell(FREE, account))
     }
-    if trades == 0 {
-        return SEVERAL_PENALTIES;
+
+    // Whether the figures are the run's own, whatever both sides agree on.
+    pub fn are_right(&self, image: &Page, figures: &Page) -> bool {
+        (1..=ACCOUNTS).all(|account| figures.cell(SHORTFALL, account)
+            == self.figure_of(image, account))
     }
-    TRADES_AND_PENALTIES
 }

@@ -1,44 +1,40 @@
 // The rows about shortfalls, and what no asking reached.
-use crate::owing::{ONE_PENALTY, SEVERAL_PENALTIES, TRADES_AND_PENALTIES};
-use longrun_counts::{
-    ASKED, ASKED_IMAGES, ASKED_NUMBERS, CLOSE_LOTS, CLOSE_ROWS, COUNTS_OF_CLOSE, FIGURES_ROOM,
-    OWING, OWING_CLASSES, OWING_ROWS, PAID_FIGURES, PAID_LESS, PAID_LESS_STATES, ROOM_CLASSES,
-    SHORT, SHORT_CLASSES, SHORTFALLS_END, Tally, counted, line,
-};
-use longrun_tables::{numbered_rows, unnamed_row};
+use crate::owing::OwingClass;
+use ledger_book::Refusal;
+use longrun_counts::Tally;
+use longrun_tables::numbered_rows;
 use std::io;
 
 // ── What no asking reached ──────────────────────────────────────────────────────────────────────
 
-// A valid image is not bad, and a bad one has no figures.
-fn is_number(k: u64) -> bool {
-    let valid = k / ASKED_NUMBERS < 2;
-    let number = k % ASKED_NUMBERS;
-    (number == 1) | ((number == 0) == valid)
+// A valid image, as the first two rows have it, is not bad, and a bad one has no figures.
+fn is_number(row: usize, number: usize) -> bool {
+    let valid = row < 2;
+    number == Refusal::ShortAnswer as usize || (number == 0) == valid
 }
 
-// Where nothing is taken no lot has a penalty.
-const NOTHING_TAKEN: u64 = OWING + 2 * OWING_CLASSES;
-
-fn may_be(place: u64) -> bool {
-    if place < FIGURES_ROOM {
-        return is_number(place.wrapping_sub(ASKED));
-    }
-    (place != NOTHING_TAKEN + ONE_PENALTY)
-        & (place != NOTHING_TAKEN + SEVERAL_PENALTIES)
-        & (place != NOTHING_TAKEN + TRADES_AND_PENALTIES)
+// Where nothing is taken, in the last row, no lot has a penalty.
+fn is_owing(row: usize, class: usize) -> bool {
+    let penalties = [
+        OwingClass::OnePenalty as usize,
+        OwingClass::SeveralPenalties as usize,
+        OwingClass::TradesAndPenalties as usize,
+    ];
+    row < 2 || !penalties.contains(&class)
 }
 
 // Counts that are 0 and must not be, or the other way round.
-fn missed_edges(tally: &Tally) -> u64 {
-    let mut missed: u64 = 0;
-    for place in ASKED..SHORTFALLS_END {
-        let reached = counted(tally, place) != 0;
-        if reached != may_be(place) {
-            missed = missed.wrapping_add(1);
-        }
-    }
-    missed
+fn missed_edges(tally: &Tally) -> usize {
+    let (asked, owing) = (&tally.asked, &tally.owing);
+    let missed = |_, reached: bool| !reached;
+    asked
+        .how_many(|row, number, reached| reached != is_number(row, number))
+        .wrapping_add(tally.figures_room.how_many(missed))
+        .wrapping_add(tally.close_lots.how_many(|_, _, reached| !reached))
+        .wrapping_add(owing.how_many(|row, class, reached| reached != is_owing(row, class)))
+        .wrapping_add(tally.short.how_many(missed))
+        .wrapping_add(tally.paid_figures.how_many(missed))
+        .wrapping_add(tally.paid_less.how_many(missed))
 }
 
 // ── Rows ────────────────────────────────────────────────────────────────────────────────────────
@@ -48,43 +44,40 @@ fn print_asked(rt: &impl Print, tally: &Tally) -> io::Result<()> {
         "shortfalls asked for, of a valid image in a morning, in an afternoon, of another length, of a bad image in a morning, in an"
     )?;
     println!(rt; "afternoon: by number from 0 on")?;
-    numbered_rows(rt, tally, 1, ASKED_IMAGES + 1, ASKED, ASKED_NUMBERS)?;
+    numbered_rows(rt, 1, tally.asked.rows())?;
     println!(rt;
         "bytes for figures: none, two or more too few, one too few, exact, one to spare, more"
     )?;
-    unnamed_row(rt, tally, FIGURES_ROOM, ROOM_CLASSES)
+    println!(rt; "{}", tally.figures_room)
 }
 
 fn print_owing(rt: &impl Print, tally: &Tally) -> io::Result<()> {
     println!(rt;
         "lots that are struck, lodged, with a penalty: due earlier, today, tomorrow, later; in an afternoon due, due later"
     )?;
-    numbered_rows(rt, tally, 1, CLOSE_ROWS + 1, CLOSE_LOTS, COUNTS_OF_CLOSE)?;
+    numbered_rows(rt, 1, tally.close_lots.rows())?;
     println!(rt;
         "accounts short of money, with enough, with nothing to pay: due is one struck lot, one lodged, one penalty, several trades,"
     )?;
     println!(rt; "several penalties, both")?;
-    numbered_rows(rt, tally, 1, OWING_ROWS + 1, OWING, OWING_CLASSES)?;
+    numbered_rows(rt, 1, tally.owing.rows())?;
     println!(rt;
         "figures above 0: of one fen, with a full payment below the deposit, of account 1, of account 96, of 33 bits or more"
     )?;
-    unnamed_row(rt, tally, SHORT, SHORT_CLASSES)
+    println!(rt; "{}", tally.short)
 }
 
 fn print_paid(rt: &impl Print, tally: &Tally) -> io::Result<()> {
     println!(rt; "figures paid in before a close, by what is due")?;
-    unnamed_row(rt, tally, PAID_FIGURES, OWING_CLASSES)?;
+    println!(rt; "{}", tally.paid_figures)?;
     println!(rt; "but for one fen: of a struck trade, of a lodged one")?;
-    unnamed_row(rt, tally, PAID_LESS, PAID_LESS_STATES)
+    println!(rt; "{}", tally.paid_less)
 }
 
 pub fn print_shortfalls(rt: &impl Print, tally: &Tally) -> io::Result<()> {
     print_asked(rt, tally)?;
     print_owing(rt, tally)?;
     print_paid(rt, tally)?;
-    line(
-        rt,
-        "edges of shortfalls that no asking reached: ",
-        missed_edges(tally),
-    )
+    let missed = missed_edges(tally);
+    println!(rt; "edges of shortfalls that no asking reached: {missed}")
 }

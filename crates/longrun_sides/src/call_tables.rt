@@ -1,71 +1,68 @@
 // One table of calls on both sides (02 5/12).
-use crate::buffers::{filled_answers, same_answers};
-use crate::compare::{LEDGER_TABLE, LIBRARY_TABLE, lend};
-use ledger_book::{Answers, BAD_TABLE, Cells, Page, TOTAL, ZONE};
-use longrun_counts::{Verdict, same};
-use longrun_draws::{CallTable, reasons};
+use crate::buffers::filled_answers;
+use crate::sides::Sides;
+use ledger_book::{ANSWERS_LENGTH, Answers, Kind, PAGE_LENGTH, Page, Refusal};
+use longrun_counts::MadeTable;
+use longrun_draws::{Lengths, Request};
 
-fn lend_table(
-    entry: u64,
-    t: CallTable,
-    image: &mut Page,
-    calls: &Page,
-    answers: &mut Answers,
-) -> u64 {
-    lend(
-        entry,
-        &mut image.bytes,
-        t.image_length as usize,
-        &calls.bytes,
-        t.calls_length as usize,
-        &mut answers.bytes,
-        t.answers_length as usize,
-    )
+// A table's calls made one by one: their records, and the image and the answers that they leave, which the table must leave too.
+#[derive(Drop)]
+pub struct MadeAlone {
+    pub lengths: Lengths,
+    pub records: Page,
+    pub image: Page,
+    pub answers: Answers,
 }
 
-// By its lengths alone, whatever both sides agree on: a table that is refused leaves image and answers as they were, one that is taken
-// leaves what is wanted.
-fn as_must_be(
-    t: CallTable,
-    number: u64,
-    before: &Page,
-    wanted: &Page,
-    image: &Page,
-    wanted_answers: &Answers,
-    answers: &Answers,
-) -> bool {
-    if reasons(t) != 0 {
-        let untouched = same(image, before) & same_answers(answers, &filled_answers());
-        return (number == BAD_TABLE) & untouched;
+impl MadeAlone {
+    // By the table's lengths alone, whatever both sides agree on: one that is refused leaves image and answers as they were, one that is taken
+    // leaves what is wanted.
+    fn as_must_be(&self, number: u64, before: &Page, image: &Page, answers: &Answers) -> bool {
+        if self.lengths.fault().is_some() {
+            let refused = number == Refusal::BadTable as u64;
+            return refused && image == before && *answers == filled_answers();
+        }
+        number == 0 && *image == self.image && *answers == self.answers
     }
-    (number == 0) & same(image, wanted) & same_answers(answers, wanted_answers)
 }
 
-// Hands the table to both sides and compares all bytes. What is wanted comes from the calls made one by one; the answers are the library's.
-// After a difference the ledger goes on with the library's image.
-pub fn drive_table(
-    t: CallTable,
-    calls: &Page,
-    wanted: &Page,
-    wanted_answers: &Answers,
-    image: &mut Page,
-    second: &mut Page,
-    answers: &mut Answers,
-) -> Verdict {
-    let before: Page = *image;
-    let mut other: Answers = filled_answers();
-    let number = lend_table(LIBRARY_TABLE, t, image, calls, answers);
-    let of_ledger = lend_table(LEDGER_TABLE, t, second, calls, &mut other);
-    let alike = same(image, second) & same_answers(answers, &other);
-    let right = as_must_be(t, number, &before, wanted, image, wanted_answers, answers);
-    let agree = (number == of_ledger) & alike & right;
-    if !agree {
-        *second = *image;
+impl Sides {
+    // Whether a call on so many bytes of the image has number 2. One of no kind has 3 on a valid image.
+    fn is_bad_image(&self, length: u64) -> bool {
+        let mut request = Request::close(Kind::PayIn);
+        request.kind = 0;
+        request.lengths.image = length;
+        let made = Sides::on(&self.image).drive(request);
+        made.verdict.is_refused_by(Refusal::BadImage)
     }
-    Verdict {
-        total: before.cell(TOTAL, ZONE),
-        of_library: number,
-        of_ledger: of_ledger,
-        agree: agree,
+
+    // Hands the table to both sides and compares all bytes.
+    pub fn drive_table(&mut self, wanted: &MadeAlone) -> MadeTable {
+        let before = self.image;
+        let lengths = wanted.lengths;
+        let bad_image = self.is_bad_image(lengths.image);
+        let mut answers = filled_answers();
+        let mut other = filled_answers();
+        let image_end = PAGE_LENGTH.min(lengths.image as usize);
+        let answers_end = ANSWERS_LENGTH.min(lengths.answers as usize);
+        let calls = &wanted.records.bytes[..PAGE_LENGTH.min(lengths.calls as usize)];
+        let number = u64::from(crz::crz_table(
+            &mut self.image.bytes[..image_end],
+            calls,
+            &mut answers.bytes[..answers_end],
+        ));
+        let of_ledger = ledger::table(
+            &mut self.second.bytes[..image_end],
+            calls,
+            &mut other.bytes[..answers_end],
+        );
+        let alike = number == of_ledger && self.image == self.second && answers == other;
+        let right = wanted.as_must_be(number, &before, &self.image, &answers);
+        MadeTable {
+            lengths,
+            bad_image,
+            answers,
+            verdict: self.compared(number, of_ledger, alike && right),
+        }
     }
 }

@@ -4,12 +4,12 @@
 
 mod buffers;
 mod call_tables;
-mod compare;
+mod calls;
 mod figures;
-mod fresh_entry;
+mod sides;
 
 pub use buffers::{filled, filled_answers};
-pub use call_tables::drive_table;
-pub use compare::{drive, record_of};
-pub use figures::drive_shortfalls;
-pub use fresh_entry::agree_on_fresh;
+pub use call_tables::MadeAlone;
+pub use calls::record_of;
+pub use figures::ask_shortfalls;
+pub use sides::Sides;

@@ -2,6 +2,7 @@
 #![tactic(auto)]
 
 mod edges;
+mod pairs;
 mod rows;
 
-pub use rows::{numbered_rows, print_differences, print_reached, unnamed_row};
+pub use rows::{numbered_rows, print_differences, print_reached};

@@ -1,36 +1,41 @@
 // What a lot holds, put elsewhere: the records stay as they are and the total agrees, so that the frozen sums alone decide (02 4/12).
-use ledger_book::{Cells, Page, RECEIPTS, STATE};
-use longrun_draws::{HELD_PLACES, below, between, held_by, move_held, percent};
+use crate::alteration::Alteration;
+use ledger_book::{Cells, RECEIPTS, STATE, State};
+use longrun_draws::{Draws, HeldPlace, move_held};
 
-// Whether the lot holds money, and none was found yet or its state is the one that is wanted.
-fn is_wanted(image: &Page, lot: u64, state: u64, found: u64) -> bool {
-    let of_state = image.cell(STATE, lot) == state;
-    (held_by(image, lot) != 0) & ((found == 0) | of_state)
+fn some_place(draws: &mut Draws) -> HeldPlace {
+    match draws.below(3) {
+        0 => HeldPlace::Seller,
+        1 => HeldPlace::AccountBefore,
+        _ => HeldPlace::Free,
+    }
 }
 
-// A lot of a drawn state, or else any that holds money; 0 where none does.
-fn some_holder(seed: &mut u64, image: &Page) -> u64 {
-    let state = between(seed, 2, 6);
-    let first = below(seed, RECEIPTS);
-    let mut found: u64 = 0;
-    for k in 0..RECEIPTS {
-        let lot = (first.wrapping_add(k) % RECEIPTS).wrapping_add(1);
-        if is_wanted(image, lot, state, found) {
-            found = lot;
+impl Alteration<'_> {
+    // The last lot of a drawn state that holds money, else the first of any state.
+    fn some_holder(&mut self) -> Option<u64> {
+        let state = self
+            .draws
+            .between(State::BidStands as u64, State::FirstPaid as u64);
+        let first = self.draws.below(RECEIPTS);
+        let mut found = None;
+        for k in 0..RECEIPTS {
+            let lot = first.wrapping_add(k) % RECEIPTS + 1;
+            let is_wanted = found.is_none() || self.image.cell(STATE, lot) == state;
+            if is_wanted && self.image.held(lot) != 0 {
+                found = Some(lot);
+            }
         }
+        found
     }
-    found
-}
 
-// Now and then the last lot. The lot whose money is moved, 0 where none holds any.
-pub fn misplace(seed: &mut u64, image: &mut Page) -> u64 {
-    let place = below(seed, HELD_PLACES);
-    let mut lot = some_holder(seed, image);
-    if percent(seed, 20) & (held_by(image, RECEIPTS) != 0) {
-        lot = RECEIPTS;
+    // Now and then the last lot. The lot whose money is moved, where one holds any.
+    pub fn misplace(&mut self) -> Option<u64> {
+        let place = some_place(self.draws);
+        let holder = self.some_holder();
+        let last = self.draws.percent(20) && self.image.held(RECEIPTS) != 0;
+        let lot = if last { RECEIPTS } else { holder? };
+        move_held(self.image, lot, place);
+        Some(lot)
     }
-    if lot != 0 {
-        move_held(image, lot, place);
-    }
-    lot
 }

@@ -4,7 +4,7 @@ use ledger_book::{
     LAST_KIND, LEAST_WEIGHT, MOST_AMOUNT, MOST_BASIS, MOST_DAYS, MOST_PREMIUM, MOST_PRICE,
     MOST_TOTAL, MOST_WEIGHT, PRICE_STEP, RECEIPTS, SPARE_LENGTH,
 };
-use longrun_draws::{Request, below, beside, between, percent, word};
+use longrun_draws::{Draws, Request};
 
 const EDGE_COUNT: usize = 29;
 
@@ -42,87 +42,80 @@ const EDGES: [u64; EDGE_COUNT] = [
 ];
 
 // A number at an end, or one beside it, or its negative.
-pub fn edge(seed: &mut u64) -> u64 {
-    let edges = EDGES;
-    let k = below(seed, EDGE_COUNT as u64) as usize;
-    let mut value: u64 = 0;
-    if k < EDGE_COUNT {
-        value = edges[k];
-    }
-    value = beside(seed, value);
-    if percent(seed, 20) {
+pub fn edge(draws: &mut Draws) -> u64 {
+    let k = draws.below(EDGE_COUNT as u64) as usize;
+    let value = draws.beside(EDGES.get(k).copied().unwrap_or(0));
+    if draws.percent(20) {
         return value.wrapping_neg();
     }
     value
 }
 
 // Any number, more often one at an end.
-fn odd_value(seed: &mut u64) -> u64 {
-    if percent(seed, 25) {
-        return word(seed);
+fn odd_value(draws: &mut Draws) -> u64 {
+    if draws.percent(25) {
+        return draws.word();
     }
-    edge(seed)
+    edge(draws)
 }
 
 // One field of a call gets another value.
-pub fn odd_field(seed: &mut u64, known: Request) -> Request {
-    let mut q = known;
-    let field = below(seed, 9);
-    let value = odd_value(seed);
+pub fn odd_field(draws: &mut Draws, mut request: Request) -> Request {
+    let field = draws.below(9);
+    let value = odd_value(draws);
     match field {
-        0 => q.kind = value,
-        1 => q.account = value,
-        2 => q.receipt = value,
-        3 => q.contract = value,
-        4 => q.days = value,
-        5 => q.zeros = value,
-        6 => q.amount = value,
-        7 => q.basis = value,
-        _ => q.weight = value,
+        0 => request.kind = value,
+        1 => request.account = value,
+        2 => request.receipt = value,
+        3 => request.contract = value,
+        4 => request.days = value,
+        5 => request.zeros = value,
+        6 => request.amount = value,
+        7 => request.basis = value,
+        _ => request.weight = value,
     }
-    q
+    request
 }
 
+const SPARE: u64 = SPARE_LENGTH as u64;
+
 // One byte too few or too many, or any length up to that of the right one with the spare bytes of a page.
-pub fn odd_length(seed: &mut u64, right: usize) -> u64 {
+pub fn odd_length(draws: &mut Draws, right: usize) -> u64 {
     let length = right as u64;
-    let draw = below(seed, 4);
-    match draw {
+    match draws.below(4) {
         0 => length.wrapping_sub(1),
         1 => length.wrapping_add(1),
-        _ => between(seed, 0, length.wrapping_add(SPARE_LENGTH as u64)),
+        _ => draws.between(0, length.wrapping_add(SPARE)),
     }
 }
 
 // One buffer of a wrong length, or a longer answer buffer.
-fn odd_buffer(seed: &mut u64, known: Request) -> Request {
-    let mut q = known;
-    let draw = below(seed, 4);
-    match draw {
-        0 => q.call_length = odd_length(seed, CALL_LENGTH),
-        1 => q.image_length = odd_length(seed, IMAGE_LENGTH),
-        2 => q.answer_length = odd_length(seed, ANSWER_LENGTH),
-        _ => q.answer_length = q
-            .answer_length
-            .wrapping_add(below(seed, SPARE_LENGTH as u64)),
+fn odd_buffer(draws: &mut Draws, mut request: Request) -> Request {
+    match draws.below(4) {
+        0 => request.lengths.calls = odd_length(draws, CALL_LENGTH),
+        1 => request.lengths.image = odd_length(draws, IMAGE_LENGTH),
+        2 => request.lengths.answers = odd_length(draws, ANSWER_LENGTH),
+        _ => {
+            let more = draws.below(SPARE);
+            request.lengths.answers = request.lengths.answers.wrapping_add(more);
+        }
     }
-    q
+    request
 }
 
 // A field, a buffer or two of these are odd: the lowest number that applies then decides.
-pub fn make_wild(seed: &mut u64, known: Request) -> Request {
-    let mut q = known;
-    if percent(seed, 60) {
-        q = odd_field(seed, q);
+pub fn make_wild(draws: &mut Draws, mut request: Request) -> Request {
+    if draws.percent(60) {
+        request = odd_field(draws, request);
     }
-    if percent(seed, 20) {
-        q = odd_field(seed, q);
+    if draws.percent(20) {
+        request = odd_field(draws, request);
     }
-    if percent(seed, 40) {
-        q = odd_buffer(seed, q);
+    if draws.percent(40) {
+        request = odd_buffer(draws, request);
     }
-    if percent(seed, 10) {
-        q = odd_buffer(seed, q);
+    if draws.percent(10) {
+        request = odd_buffer(draws, request);
     }
-    q
+    request
 }

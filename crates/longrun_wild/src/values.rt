@@ -1,93 +1,97 @@
 // Another value for a field.
+use crate::alteration::Alteration;
 use crate::odd::edge;
 use ledger_book::{
     ACCOUNTS, ASK, BASIS, BUYER, CONFIRMED, CONTRACT, CONTRACTS, Cells, DAY, DUE, LAST_DAY,
     LAST_DUE, LEAST_WEIGHT, MOST_PREMIUM, MOST_TOTAL, MOST_WEIGHT, OWNER, PAID, PENDING, PREMIUM,
-    PRICE, Page, SELLER, WEIGHT, is_premium, paid_of_rest,
+    PRICE, SELLER, WEIGHT, is_premium, paid_of_rest,
 };
-use longrun_draws::{below, beside, between, full_of, percent, price_edge, to_nothing, word};
+use longrun_draws::Draws;
 
 // The first or the last of a range, or the number just outside it there.
-fn range_edge(seed: &mut u64, first: u64, last: u64) -> u64 {
-    let draw = below(seed, 4);
-    if draw < 2 {
-        return first.wrapping_add(draw).wrapping_sub(1);
+fn range_edge(draws: &mut Draws, first: u64, last: u64) -> u64 {
+    match draws.below(4) {
+        draw @ 0..=1 => first.wrapping_add(draw).wrapping_sub(1),
+        draw => last.wrapping_add(draw - 2),
     }
-    last.wrapping_add(draw.wrapping_sub(2))
 }
 
 // What leaves next to nothing to pay for a tonne, mostly where that is a premium; else an end of the range or a number beside it.
-fn premium_edge(seed: &mut u64, price: u64, basis: u64) -> u64 {
-    let least = to_nothing(seed, price, basis) % 4294967296;
-    if is_premium(least) & percent(seed, 80) {
+fn premium_edge(draws: &mut Draws, price: u64, basis: u64) -> u64 {
+    let least = draws.to_nothing(price, basis) % 4294967296;
+    let is_least = draws.percent(80);
+    if is_least && is_premium(least) {
         return least;
     }
-    if percent(seed, 50) {
-        return beside(seed, MOST_PREMIUM.wrapping_neg());
+    if draws.percent(50) {
+        return draws.beside(MOST_PREMIUM.wrapping_neg());
     }
-    beside(seed, MOST_PREMIUM)
+    draws.beside(MOST_PREMIUM)
 }
 
 // The most that can be confirmed beside what is pending, or one fen more; now and then nothing.
-fn confirmed_edge(seed: &mut u64, full: u64, pending: u64) -> u64 {
-    let beyond = below(seed, 2);
-    if percent(seed, 30) {
+fn confirmed_edge(draws: &mut Draws, full: u64, pending: u64) -> u64 {
+    let beyond = draws.below(2);
+    if draws.percent(30) {
         return 0;
     }
     full.wrapping_add(beyond)
         .wrapping_sub(pending.wrapping_add(1))
 }
 
-// A value at the field's own limit or just beyond, which other fields of the receipt may set.
-pub fn limit_in_receipt(seed: &mut u64, image: &Page, lot: u64, column: u64) -> u64 {
-    let beyond = below(seed, 2);
-    let full = full_of(image, lot);
-    let confirmed = image.cell(CONFIRMED, lot);
-    let price = image.cell(PRICE, lot);
-    match column {
-        OWNER => range_edge(seed, 1, ACCOUNTS),
-        SELLER => image.cell(BUYER, lot),
-        BUYER => image.cell(SELLER, lot),
-        CONTRACT => range_edge(seed, 1, CONTRACTS),
-        DUE => range_edge(seed, 1, LAST_DUE),
-        WEIGHT => range_edge(seed, LEAST_WEIGHT, MOST_WEIGHT),
-        BASIS => to_nothing(seed, price, image.cell(PREMIUM, lot)),
-        PREMIUM => premium_edge(seed, price, image.cell(BASIS, lot)),
-        PRICE => price_edge(seed),
-        PENDING => full.wrapping_sub(confirmed).wrapping_add(beyond),
-        CONFIRMED => confirmed_edge(seed, full, image.cell(PENDING, lot)),
-        PAID => beside(seed, paid_of_rest(full, confirmed)),
-        _ => below(seed, 9),
-    }
-}
-
-// The same outside receipts.
-pub fn limit_in_zone(seed: &mut u64, column: u64) -> u64 {
-    match column {
-        DAY => range_edge(seed, 1, LAST_DAY),
-        ASK => price_edge(seed),
-        _ => MOST_TOTAL.wrapping_add(below(seed, 2)),
-    }
-}
-
-fn other_value(seed: &mut u64, old: u64, limit: u64) -> u64 {
-    let draw = below(seed, 10);
-    match draw {
+fn other_value(draws: &mut Draws, old: u64, limit: u64) -> u64 {
+    match draws.below(10) {
         0 => old.wrapping_add(1),
         1 => old.wrapping_sub(1),
-        2 => old.wrapping_add(between(seed, 1, 3).wrapping_mul(5)),
-        3 => edge(seed),
-        4 => word(seed),
+        2 => old.wrapping_add(draws.between(1, 3).wrapping_mul(5)),
+        3 => edge(draws),
+        4 => draws.word(),
         _ => limit,
     }
 }
 
-// Puts another value into the field; what was added, modulo 2^64.
-pub fn displace(seed: &mut u64, image: &mut Page, column: u64, row: u64, limit: u64) -> u64 {
-    let old = image.cell(column, row);
-    image.set(column, row, other_value(seed, old, limit));
-    if image.cell(column, row) == old {
-        image.set(column, row, old.wrapping_add(1));
+impl Alteration<'_> {
+    // A value at the field's own limit or just beyond, which other fields of the receipt may set.
+    pub fn limit_in_receipt(&mut self, lot: u64, column: u64) -> u64 {
+        let beyond = self.draws.below(2);
+        let full = self.image.full_payment(lot);
+        let confirmed = self.image.cell(CONFIRMED, lot);
+        let price = self.image.cell(PRICE, lot);
+        let draws = &mut *self.draws;
+        match column {
+            OWNER => range_edge(draws, 1, ACCOUNTS),
+            SELLER => self.image.cell(BUYER, lot),
+            BUYER => self.image.cell(SELLER, lot),
+            CONTRACT => range_edge(draws, 1, CONTRACTS),
+            DUE => range_edge(draws, 1, LAST_DUE),
+            WEIGHT => range_edge(draws, LEAST_WEIGHT, MOST_WEIGHT),
+            BASIS => draws.to_nothing(price, self.image.cell(PREMIUM, lot)),
+            PREMIUM => premium_edge(draws, price, self.image.cell(BASIS, lot)),
+            PRICE => draws.price_edge(),
+            PENDING => full.wrapping_sub(confirmed).wrapping_add(beyond),
+            CONFIRMED => confirmed_edge(draws, full, self.image.cell(PENDING, lot)),
+            PAID => draws.beside(paid_of_rest(full, confirmed)),
+            _ => draws.below(9),
+        }
     }
-    image.cell(column, row).wrapping_sub(old)
+
+    // The same outside receipts.
+    pub fn limit_in_zone(&mut self, column: u64) -> u64 {
+        match column {
+            DAY => range_edge(self.draws, 1, LAST_DAY),
+            ASK => self.draws.price_edge(),
+            _ => MOST_TOTAL.wrapping_add(self.draws.below(2)),
+        }
+    }
+
+    // Puts another value into the field; what was added, modulo 2^64.
+    pub fn displace(&mut self, column: u64, row: u64, limit: u64) -> u64 {
+        let old = self.image.cell(column, row);
+        let value = other_value(self.draws, old, limit);
+        self.image.set(column, row, value);
+        if self.image.cell(column, row) == old {
+            self.image.set(column, row, old.wrapping_add(1));
+        }
+        self.image.cell(column, row).wrapping_sub(old)
+    }
 }

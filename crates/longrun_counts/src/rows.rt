@@ -1,0 +1,103 @@
+// Counts in rows. A row or a column that a table does not have counts nothing: no caller names one, and each function is safe by itself.
+use std::fmt;
+
+#[derive(Clone, Copy)]
+pub struct CountRow<const COLUMNS: usize> {
+    counts: [u64; COLUMNS],
+}
+
+impl<const COLUMNS: usize> CountRow<COLUMNS> {
+    pub fn empty() -> Self {
+        CountRow {
+            counts: [0; COLUMNS],
+        }
+    }
+
+    pub fn add_many(&mut self, column: u64, more: u64) {
+        if let Some(count) = self.counts.get_mut(column as usize) {
+            *count = count.wrapping_add(more);
+        }
+    }
+
+    pub fn add(&mut self, column: u64) {
+        self.add_many(column, 1);
+    }
+
+    pub fn total(&self) -> u64 {
+        self.counts
+            .iter()
+            .fold(0, |total, count| total.wrapping_add(*count))
+    }
+
+    // Of how many columns this is so, by their number and whether anything was counted there.
+    pub fn how_many<F: Fn(usize, bool) -> bool>(&self, is_so: F) -> usize
+        requires { F.IsAlwaysCallable is_so }
+    {
+        self.counts
+            .iter()
+            .enumerate()
+            .filter(|(column, count)| is_so(*column, **count != 0))
+            .count()
+    }
+}
+
+// To the right in columns of seven.
+impl<const COLUMNS: usize> fmt::Display for CountRow<COLUMNS> {
+    fn fmt<W: fmt::Write>(&self, f: &mut fmt::Formatter<W>) -> fmt::Result {
+        for count in &self.counts {
+            write!(f, "{count:>7}")?;
+        }
+        Ok(())
+    }
+}
+
+#[derive(Clone, Copy)]
+pub struct Counts<const ROWS: usize, const COLUMNS: usize> {
+    rows: [CountRow<COLUMNS>; ROWS],
+}
+
+impl<const ROWS: usize, const COLUMNS: usize> Counts<ROWS, COLUMNS> {
+    pub fn empty() -> Self {
+        Counts {
+            rows: [CountRow {
+                counts: [0; COLUMNS],
+            }; ROWS],
+        }
+    }
+
+    pub fn rows(&self) -> &[CountRow<COLUMNS>] {
+        &self.rows
+    }
+
+    pub fn add_many(&mut self, row: u64, column: u64, more: u64) {
+        if let Some(counts) = self.rows.get_mut(row as usize) {
+            counts.add_many(column, more);
+        }
+    }
+
+    pub fn add(&mut self, row: u64, column: u64) {
+        self.add_many(row, column, 1);
+    }
+
+    fn count(&self, row: usize, column: usize) -> u64 {
+        match self.rows.get(row) {
+            Some(counts) => counts.counts.get(column).copied().unwrap_or(0),
+            None => 0,
+        }
+    }
+
+    // The same of all rows. By their numbers (c): in a `for` over the rows the goal `listed` of the generic call stayed open.
+    pub fn how_many<F: Fn(usize, usize, bool) -> bool>(&self, is_so: F) -> usize
+        requires { F.IsAlwaysCallable is_so }
+    {
+        let mut found = 0usize;
+        for row in 0..ROWS {
+            for column in 0..COLUMNS {
+                if is_so(row, column, self.count(row, column) != 0) {
+                    found = found.wrapping_add(1);
+                }
+            }
+        }
+        found
+    }
+}
