@@ -4,7 +4,6 @@ use mathlib.Core.Path.{◌≡◌}
 use native.Mathlib.Omega.{arith}
 use Rattle.units.specs.Payments.{part_payment}
 use Rattle.zone.specs.Held.{full}
-use Rattle.zone.specs.Laws.Facts.{bounds}
 use Rattle.rules.specs.Effects.{confirm}
 use Rattle.rules.specs.Laws.Receipts.{PartPaid, part_paid}
 use Rattle.trades.proofs.confirm_at.Goals as goal
@@ -19,9 +18,6 @@ part_here : (c : After-part_payment-part) →
     let f = c.args.f in
     c.part_payment-part.result.0 ≡ (part_payment (full f) f.confirmed f.paid f.pending).0
 part_here c = rw (c.part_payment-part.ensures, c.full_of-full.ensures)
-
-pub full_of-full-requires : goal.full_of-full-requires
-full_of-full-requires c = (bounds c.args.f c.requires.0).weight
 
 pub part_payment-part-requires : goal.part_payment-part-requires
 part_payment-part-requires c =
