@@ -19,7 +19,7 @@ use Rattle.zone.specs.Record.{listing_of, bid_of, trade_of, no_invoices}
 use Rattle.zone.specs.Valid.{no_asks}
 use Rattle.rules.specs.AtLot.{AtLot}
 use Rattle.rules.specs.AtLot.{one_event}
-use Rattle.std.specs.Prelude.{Option, Some, None}
+use Rattle.std.specs.Prelude.{None}
 use Rattle.rules.specs.declared.Call.{Call}
 use Rattle.rules.specs.declared.Entry.{Entry}
 use Rattle.rules.specs.declared.View.{View}

@@ -11,8 +11,7 @@ use Rattle.zone.specs.declared.Zone.{Zone}
 use Rattle.zone.specs.Held.{hold_of}
 use Rattle.zone.specs.Record.{record_of}
 use Rattle.rules.specs.AtLot.{AtLot}
-use Rattle.rules.specs.AtLot.{one_event}
-use Rattle.std.specs.Prelude.{Option, Some, None}
+use Rattle.std.specs.Prelude.{Some, None}
 use Rattle.rules.specs.declared.Entry.{Entry}
 use Rattle.rules.specs.Tables.{among, put}
 use Rattle.rules.specs.View.{free_of, frozen_of, record_of_receipt}

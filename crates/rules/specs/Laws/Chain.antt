@@ -10,7 +10,7 @@ use Rattle.rules.specs.declared.Call.{Call}
 use Rattle.rules.specs.declared.Entry.{Entry}
 use Rattle.rules.specs.AtLot.{AtLot}
 use Rattle.rules.specs.AtLot.{one_event}
-use Rattle.std.specs.Prelude.{Option, Some, None}
+use Rattle.std.specs.Prelude.{Some, None}
 use Rattle.rules.specs.Effects.{rule_at, opening, sweeps, first_lot, lot_count, ending, at_lots, effect}
 use Rattle.rules.specs.Events.{posted, after_lot, sweep}
 use Rattle.rules.specs.Laws.Kinds.{with_kind, ByKind, by_kind}

@@ -15,7 +15,7 @@ use Rattle.rules.specs.declared.Call.{Call}
 use Rattle.rules.specs.declared.Entry.{Entry}
 use Rattle.rules.specs.AtLot.{AtLot}
 use Rattle.rules.specs.AtLot.{one_event}
-use Rattle.std.specs.Prelude.{Option, Some, None}
+use Rattle.std.specs.Prelude.{Some, None}
 use Rattle.rules.specs.Effects.{rule_of, rule_at, sweeps, no_rule, sweep_kinds}
 use Rattle.rules.specs.Events.{posted, after_lot}
 use Rattle.rules.specs.Laws.Chain.{none, on_event, Visit, swept, named, Chain, stop, link}

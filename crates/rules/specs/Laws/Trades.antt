@@ -22,7 +22,7 @@ use Rattle.zone.specs.Valid.{record_valid}
 use Rattle.rules.specs.declared.Call.{Call}
 use Rattle.rules.specs.AtLot.{AtLot}
 use Rattle.rules.specs.AtLot.{one_event}
-use Rattle.std.specs.Prelude.{Option, Some, None}
+use Rattle.std.specs.Prelude.{None}
 use Rattle.rules.specs.declared.View.{View}
 use Rattle.rules.specs.Effects.{with_lot, event_of, entry_of, has_money, lodge, close_lot, pay_first, send_invoice, confirm, owned_by}
 use Rattle.rules.specs.Events.{money_of}
