@@ -1,6 +1,6 @@
 -- When an event can be posted.
 -- Assumes nothing.
-use Rattle.std.specs.Prelude.{true, ◌≡◌, ◌≤◌}
+use Rattle.std.specs.Prelude.{true, ◌≡◌, ◌≤◌, Some, None}
 use Rattle.units.specs.Ranges.{receipt_count}
 use Rattle.zone.specs.declared.Receipt.{Receipt}
 use Rattle.zone.specs.declared.Zone.{Zone}
@@ -8,8 +8,6 @@ use Rattle.zone.specs.Record.{record_of}
 use Rattle.zone.specs.Valid.{record_valid}
 use Rattle.image.specs.Image.{Fits}
 use Rattle.rules.specs.AtLot.{AtLot}
-use Rattle.rules.specs.AtLot.{one_event}
-use Rattle.std.specs.Prelude.{Option, Some, None}
 use Rattle.rules.specs.declared.Entry.{Entry}
 use Rattle.rules.specs.Ready.{Funded}
 use Rattle.rules.specs.View.{record_of_receipt}
@@ -25,4 +23,4 @@ pub record Postable (z : Zone) (e : Entry) (r : Receipt) : Type 0 where
 -- an event at a lot, if there is one, can be posted
 abbrev pub CanPost : Zone → AtLot → Type 0
 CanPost z None = Unit {0}
-CanPost z (one_event e r) = Postable z e r
+CanPost z (Some x) = Postable z x.entry x.receipt

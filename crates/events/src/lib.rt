@@ -8,35 +8,35 @@ ghost use Rattle.events.specs.Posting.{Postable};
 
 pub mod money;
 
-use rules::{Entry, OUTCOME_BUYER_DEFAULT, OUTCOME_FIRST_PAID, OUTCOME_PART_PAID, OUTCOME_PENALTY};
+use rules::{Entry, Event, Outcome};
 use units::Fen;
-use zone::Receipt;
 
 // The money that passes by an entry: in these four outcomes its number is fen. In the others it is a price, an amount that does not
 // pass, or 0.
+#[tactic(auto, using(rules::specs::Laws::Tables::among_joined), unfolding(rules::specs::Events::money_of))]
 fn money_of(e: Entry) -> Fen
     ensures { result ≡ money_of e }
 {
-    let o = e.outcome;
-    if (o == OUTCOME_FIRST_PAID)
-        | (o == OUTCOME_PART_PAID)
-        | (o == OUTCOME_BUYER_DEFAULT)
-        | (o == OUTCOME_PENALTY)
+    if (e.outcome == Outcome::FirstPaid as u8)
+        | (e.outcome == Outcome::PartPaid as u8)
+        | (e.outcome == Outcome::BuyerDefault as u8)
+        | (e.outcome == Outcome::Penalty as u8)
     {
-        Fen(e.number as u64)
+        Fen(u64::from(e.number))
     } else {
         Fen(0)
     }
 }
 
-pub fn post(image: &mut [u8], e: Entry, r: Receipt)
-    requires { Encoded image.old × Postable (decode image.old) e r }
-    ensures { image.new ≡ encode (posted (decode image.old) e r) }
+pub fn post(image: &mut [u8], event: Event)
+    requires { Encoded image.old × Postable (decode image.old) event.entry event.receipt }
+    ensures { image.new ≡ encode (posted (decode image.old) event.entry event.receipt) }
 {
-    let k = (e.lot - 1) as usize;
+    let entry = event.entry;
+    let k = usize::from(entry.lot - 1);
     let old = validity::hold_of(image::record_at(image, k));
-    let after = zone::record_of(r);
+    let after = zone::record_of(event.receipt);
     let new = validity::hold_of(after);
     put::receipt_record(image, k, after);
-    money::move_money(image, old, e.from, e.to, money_of(e), new);
+    money::move_money(image, old, entry.from, entry.to, money_of(entry), new);
 }

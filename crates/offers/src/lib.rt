@@ -1,63 +1,58 @@
 // The code of the rules of registration, listings and bids: kinds 3 to 9.
 #![tactic(auto)]
 
-ghost use Rattle.std.specs.Prelude.{◌≡◌, ◌≤◌};
+ghost use Rattle.std.specs.Prelude.{◌≡◌, ◌≤◌, Some};
 ghost use Rattle.units.specs.Ranges.{most_price, last_day, most_days};
 ghost use Rattle.zone.specs.Record.{record_of, bid_of};
 ghost use Rattle.rules.specs.Effects.{due_day, bid_stands, struck_receipt, bid_struck, meets_ask, register, list_for, listing_ended, limit_bid, market_bid, withdraw_bid, quote_meets};
+ghost use Rattle.rules.specs.Kinds.{outcome_number};
 ghost use Rattle.rules.specs.Ready.{Ready};
 
-use rules::{
-    AtLot, Call, Entry, OUTCOME_BID_STANDS, OUTCOME_BID_WITHDRAWN, OUTCOME_ENDED, OUTCOME_LISTED,
-    OUTCOME_REGISTERED, OUTCOME_STRUCK, View,
-};
+use rules::{Call, Entry, Event, Outcome, View};
 use units::{Basis, Fen, Kilograms, Premium, YuanPerTonne};
-use zone::{Bid, Listing, Lot, Receipt, Record, STATE_BID_STANDS, STATE_STRUCK, Trade};
+use zone::{Bid, Listing, Lot, Receipt, Record, State, Trade};
 
 // ── Registration and listings ───────────────────────────────────────────────────────────────────
 
 // A registration has the premium in the field of the basis.
-fn premium_of(c: Call) -> Premium
-    ensures { result.0 ≡ c.basis }
+#[tactic(auto, unfolding(rules::specs::Effects::register))]
+pub fn register_at(c: Call, n: u8) -> Event
+    ensures { Some result ≡ register c n }
 {
-    Premium(c.basis)
-}
-
-pub fn register_at(c: Call, n: u8) -> AtLot
-    ensures { result ≡ register c n }
-{
-    let e = rules::by_owner(n, OUTCOME_REGISTERED, c.account);
-    AtLot::Event(
-        e,
-        Receipt {
+    Event {
+        entry: rules::by_owner(n, Outcome::Registered, c.account),
+        receipt: Receipt {
             owner: c.account,
             weight: Kilograms(c.weight),
-            premium: premium_of(c),
+            premium: Premium(c.basis),
             lot: Lot::Idle,
         },
-    )
+    }
 }
 
-pub fn list_at(c: Call, n: u8, f: Record) -> AtLot
-    ensures { result ≡ list_for c n f }
+#[tactic(auto, unfolding(rules::specs::Effects::list_for))]
+pub fn list_at(c: Call, n: u8, f: Record) -> Event
+    ensures { Some result ≡ list_for c n f }
 {
-    let e = rules::by_owner(n, OUTCOME_LISTED, c.account);
-    let l = Listing {
+    let listing = Listing {
         seller: c.account,
         contract: c.contract,
         days: c.days,
         basis: Basis(c.basis),
     };
-    AtLot::Event(e, rules::with_lot(f, Lot::Listed(l)))
+    Event {
+        entry: rules::by_owner(n, Outcome::Listed, c.account),
+        receipt: rules::with_lot(f, Lot::Listed(listing)),
+    }
 }
 
-pub fn end_listing(n: u8, f: Record) -> AtLot
-    ensures { result ≡ listing_ended n f }
+pub fn end_listing(n: u8, f: Record) -> Event
+    ensures { Some result ≡ listing_ended n f }
 {
-    AtLot::Event(
-        rules::by_owner(n, OUTCOME_ENDED, f.seller),
-        rules::with_lot(f, Lot::Idle),
-    )
+    Event {
+        entry: rules::by_owner(n, Outcome::Ended, f.seller),
+        receipt: rules::with_lot(f, Lot::Idle),
+    }
 }
 
 // ── Bids ────────────────────────────────────────────────────────────────────────────────────────
@@ -69,121 +64,113 @@ fn due_day(v: View, days: u8) -> u16
     if v.afternoon & (days == 0) {
         v.day + 1
     } else {
-        v.day + (days as u16)
+        v.day + u16::from(days)
     }
 }
 
-fn stand(n: u8, f: Record, b: Bid) -> AtLot
-    ensures { result ≡ bid_stands n f b }
+// From the bidder to the seller, with the price.
+fn bid_entry(n: u8, outcome: Outcome, f: Record, b: Bid) -> Entry
+    ensures { result ≡ record { lot = n; outcome = outcome_number outcome; from = b.buyer; to = f.seller; number = b.price.0 } }
 {
-    let e = Entry {
+    Entry {
         lot: n,
-        outcome: OUTCOME_BID_STANDS,
+        outcome: outcome as u8,
         from: b.buyer,
         to: f.seller,
         number: b.price.0,
-    };
-    AtLot::Event(
-        e,
-        rules::with_lot(f, Lot::BidStands(zone::listing_of(f), b)),
-    )
+    }
 }
 
-fn strike(v: View, n: u8, f: Record, b: Bid) -> AtLot
-    requires { Ready v f }
-    ensures { result ≡ bid_struck v n f b }
+fn stand(n: u8, f: Record, b: Bid) -> Event
+    ensures { Some result ≡ bid_stands n f b }
 {
-    let e = Entry {
-        lot: n,
-        outcome: OUTCOME_STRUCK,
-        from: b.buyer,
-        to: f.seller,
-        number: b.price.0,
-    };
-    let l = zone::listing_of(f);
-    let t = Trade {
-        listing: l,
+    Event {
+        entry: bid_entry(n, Outcome::BidStands, f, b),
+        receipt: rules::with_lot(f, Lot::BidStands(zone::listing_of(f), b)),
+    }
+}
+
+#[tactic(auto, using(crate::proofs::Days::valid_days))]
+fn strike(v: View, n: u8, f: Record, b: Bid) -> Event
+    requires { Ready v f }
+    ensures { Some result ≡ bid_struck v n f b }
+{
+    let trade = Trade {
+        listing: zone::listing_of(f),
         bid: b,
         due: due_day(v, f.days),
     };
-    AtLot::Event(e, rules::with_lot(f, Lot::Struck(t)))
+    Event {
+        entry: bid_entry(n, Outcome::Struck, f, b),
+        receipt: rules::with_lot(f, Lot::Struck(trade)),
+    }
 }
 
 fn meets_ask(v: View, price: YuanPerTonne) -> bool
     ensures { result ≡ meets_ask v price }
 {
-    !(v.ask.0 == 0) & (v.ask.0 <= price.0)
+    (v.ask != YuanPerTonne(0)) & (v.ask <= price)
 }
 
-pub fn limit_bid(v: View, c: Call, n: u8, f: Record) -> AtLot
+#[tactic(auto, unfolding(rules::specs::Effects::limit_bid))]
+pub fn limit_bid(v: View, c: Call, n: u8, f: Record) -> Event
     requires { Ready v f × (c.amount ≤ most_price) }
-    ensures { result ≡ limit_bid v c n f }
+    ensures { Some result ≡ limit_bid v c n f }
 {
     let price = YuanPerTonne(c.amount as u32);
-    let b = Bid {
+    let bid = Bid {
         buyer: c.account,
-        price: price,
+        price,
     };
     if meets_ask(v, price) {
-        strike(v, n, f, b)
+        strike(v, n, f, bid)
     } else {
-        stand(n, f, b)
+        stand(n, f, bid)
     }
 }
 
-pub fn market_bid(v: View, c: Call, n: u8, f: Record) -> AtLot
+#[tactic(auto, unfolding(rules::specs::Effects::market_bid))]
+pub fn market_bid(v: View, c: Call, n: u8, f: Record) -> Event
     requires { Ready v f }
-    ensures { result ≡ market_bid v c n f }
+    ensures { Some result ≡ market_bid v c n f }
 {
-    let ask = v.ask;
-    let b = Bid {
+    let bid = Bid {
         buyer: c.account,
-        price: ask,
+        price: v.ask,
     };
-    strike(v, n, f, b)
+    strike(v, n, f, bid)
 }
 
-pub fn withdraw_bid(n: u8, f: Record) -> AtLot
-    ensures { result ≡ withdraw_bid n f }
+#[tactic(auto, unfolding(rules::specs::Effects::withdraw_bid))]
+pub fn withdraw_bid(n: u8, f: Record) -> Event
+    ensures { Some result ≡ withdraw_bid n f }
 {
-    AtLot::Event(
-        rules::by_buyer(n, OUTCOME_BID_WITHDRAWN, f, 0),
-        rules::with_lot(f, Lot::Listed(zone::listing_of(f))),
-    )
+    Event {
+        entry: rules::by_buyer(n, Outcome::BidWithdrawn, f, 0),
+        receipt: rules::with_lot(f, Lot::Listed(zone::listing_of(f))),
+    }
 }
 
 // A standing bid of the quoted contract that meets the new ask.
 pub fn quote_meets(v: View, c: Call, f: Record) -> bool
     ensures { result ≡ quote_meets v c f }
 {
-    let price = f.price;
-    (f.state == STATE_BID_STANDS) & (f.contract == c.contract) & meets_ask(v, price)
+    (f.state == State::BidStands as u8) & (f.contract == c.contract) & meets_ask(v, f.price)
 }
 
 // The record of a lot whose standing bid is struck.
+#[tactic(auto, using(crate::proofs::Days::valid_days), unfolding(zone::specs::Record::record_of))]
 pub fn struck_record(v: View, f: Record) -> Record
     requires { Ready v f }
     ensures { result ≡ record_of (struck_receipt v f (bid_of f)) }
 {
     let due = due_day(v, f.days);
-    let weight = f.weight;
-    let basis = f.basis;
-    let premium = f.premium;
-    let bid_price = f.price;
     Record {
-        owner: f.owner,
-        state: STATE_STRUCK,
-        seller: f.seller,
-        buyer: f.buyer,
-        contract: f.contract,
-        days: f.days,
-        due: due,
-        weight: weight,
-        basis: basis,
-        price: bid_price,
+        state: State::Struck as u8,
+        due,
         pending: Fen(0),
         confirmed: Fen(0),
         paid: Fen(0),
-        premium: premium,
+        ..f
     }
 }

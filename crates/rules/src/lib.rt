@@ -159,13 +159,11 @@ pub struct Event {
 fn owned_by(owner: u8, f: Record, lot: Lot) -> Receipt
     ensures { result ≡ owned_by owner f lot }
 {
-    let weight = f.weight;
-    let premium = f.premium;
     Receipt {
-        owner: owner,
-        weight: weight,
-        premium: premium,
-        lot: lot,
+        owner,
+        weight: f.weight,
+        premium: f.premium,
+        lot,
     }
 }
 
@@ -185,7 +183,7 @@ pub fn by_buyer(n: u8, outcome: Outcome, f: Record, number: u32) -> Entry
         outcome: outcome as u8,
         from: f.buyer,
         to: f.seller,
-        number: number,
+        number,
     }
 }
 
@@ -198,7 +196,7 @@ pub fn by_seller(n: u8, outcome: Outcome, f: Record, number: u32) -> Entry
         outcome: outcome as u8,
         from: f.seller,
         to: f.buyer,
-        number: number,
+        number,
     }
 }
 

@@ -4,7 +4,6 @@ use native.Mathlib.Omega.{arith}
 use Rattle.units.specs.Payments.{part_payment}
 use Rattle.zone.specs.Held.{full}
 use Rattle.zone.specs.Laws.Facts.{bounds}
-use Rattle.rules.specs.Effects.{confirm}
 use Rattle.rules.specs.Laws.Receipts.{PartPaid, part_paid}
 use Rattle.trades.proofs.confirm_at.Goals as goal
 use Rattle.trades.proofs.confirm_at.Goals.{Start, After-part_payment-part}
@@ -35,7 +34,3 @@ confirmed_lot-requires c =
     let i = here c.before.before.before.before.before.before.before in
     let p = part_here c.before.before in
     (omega (arith, i), omega (arith, i, p))
-
-pub returns : goal.returns
-unfolding confirm
-returns c = rw (c.with_lot.ensures, c.by_buyer.ensures, c.confirmed_lot.ensures, c.part_payment-part.ensures, c.full_of-full.ensures)

@@ -3,7 +3,6 @@ use Rattle.units.specs.Laws.Bounds.{first_le}
 use Rattle.zone.specs.Held.{full}
 use Rattle.zone.specs.Laws.Facts.{bounds}
 use Rattle.zone.specs.Laws.Held.{full_le}
-use Rattle.rules.specs.Effects.{pay_first}
 use Rattle.trades.proofs.pay_first.Goals as goal
 
 pub full_of-requires : goal.full_of-requires
@@ -16,7 +15,3 @@ pub overflow_cast-paid : goal.overflow_cast-paid
 overflow_cast-paid c =
     let f = c.args.f in
     rw (c.first_payment-paid.ensures, c.full_of.ensures) (omega (arith, full_le f (bounds f c.requires), first_le (full f)))
-
-pub returns : goal.returns
-unfolding pay_first
-returns c = rw (c.with_lot.ensures, c.by_buyer.ensures, c.first_payment-paid.ensures, c.full_of.ensures, c.trade_of.ensures, c.no_invoices.ensures)
