@@ -1,7 +1,7 @@
 -- At a lot that the call does not concern its rule has no event.
 -- Assumes nothing.
 use Rattle.std.specs.Prelude.{true, false, ◌≡◌, ℕ, ◌+◌, ◌-◌, ◌≤◌, ◌<◌, List, Option, Some, None, MatchOption, Result, Ok}
-use Rattle.std.proofs.Common.{ap, ◌∙◌, arith}
+use Rattle.std.proofs.Common.{sym, ap, ◌∙◌, arith}
 use Rattle.units.specs.Ranges.{receipt_count}
 use Rattle.zone.specs.declared.Record.{Record}
 use Rattle.zone.specs.Valid.{valid_zone}
@@ -14,8 +14,9 @@ use Rattle.rules.specs.declared.Kind.TheVariants.{Quote, MorningClose, DayClose}
 use Rattle.rules.specs.declared.Refusal.{Refusal}
 use Rattle.rules.specs.declared.View.{View}
 use Rattle.rules.specs.Effects.{rule_of, rule_at, sweeps, quote_lot, day_close_lot, sweep_kinds}
-use Rattle.rules.specs.Kinds.{kind_of}
+use Rattle.rules.specs.Kinds.{kind_number, kind_of}
 use Rattle.rules.specs.Laws.Kinds.{with_kind}
+use Rattle.rules.specs.Laws.Numbered.{is_kind}
 use Rattle.rules.specs.Laws.Tables.{among_each}
 use Rattle.rules.specs.Laws.Trades.{close_none}
 use Rattle.rules.specs.View.{record_of_receipt}
@@ -30,6 +31,14 @@ pub swept_kind : {r : Result Kind Refusal} {P : Type 0} (n : ℕ) → sweeps n �
 unfolding kind_of
 swept_kind {r} {P} n s e quote morning day =
     among_each (λ n. r ≡ kind_of n → P) n sweep_kinds (quote, (morning, (day, tt))) s e
+
+-- a number that was read as a kind is that kind's
+pub read_as : {r : Result Kind Refusal} {n : ℕ} {k j : Kind} → r ≡ kind_of n → r ≡ Ok k → k ≡ j → n ≡ kind_number j
+read_as e is at = is_kind _ _ (sym e ∙ is) ∙ ap kind_number at
+
+-- and was not read as another
+pub read_otherwise : {r : Result Kind Refusal} {k : Kind} (j : Kind) → r ≡ Ok k → (k ≡ j → ⊥) → r ≡ Ok j → ⊥
+read_otherwise {r} {k} j is other q = other (let same : Ok k ≡ Ok j = sym is ∙ q in cc)
 
 -- ── A lot that is passed over ──────────────────────────────────────────────────────────────────
 
