@@ -1,1 +1,2 @@
 pub mod UsedFields
+pub mod Rows

@@ -1,36 +1,17 @@
--- What a row of `brackets` asks of a call, with the tests joined from the left, as the code joins them: at a row written out it computes
+-- What a row of `brackets` asks to be zero, with the tests joined from the left, as the code joins them: at a row written out it computes
 -- to the code's own expression.
 -- Assumes nothing.
 use mathlib.Core.Bool.{Bool, true, false, cond, ◌&&◌, ◌||◌, and-true, and-false, and_assoc, and_comm}
 use mathlib.Core.List.{List, [], ◌∷◌}
-use mathlib.Core.Logic.{◌≢◌}
 use mathlib.Core.Path.{◌≡◌, refl, sym, ap, ◌∙◌}
-use Prim.Native.Nat.{ℕ, zero, suc, ◌≤◌, ◌<◌}
+use Prim.Native.Nat.{ℕ, zero, suc}
 use lib.Dec.{eqb, leb-zero, leb-suc-zero, eqb-suc-zero}
-use lib.IntN.{ℤ, pos}
-use lib.ListN.{get_or}
-use types.Run.{OneOf}
+use lib.IntN.{pos}
 use Rattle.units.specs.Ranges.{is_zero}
 use Rattle.rules.specs.declared.Call.{Call}
-use Rattle.rules.specs.Numbers.{Field, account, receipt, brackets, is_used, in_range, unused_zero, values}
-use Rattle.rules.specs.Laws.Arms.{at_keys, at_run, past}
-
--- ── Each field of the row in its range ─────────────────────────────────────────────────────────
-
-module _ (vs : List ℤ) where
-  abbrev pub ranged : Bool → List Field → Bool
-  ranged b [] = b
-  ranged b (f ∷ fs) = ranged (b && f.range (get_or vs f.index (pos 0))) fs
-
-  ranged_all : (b : Bool) (fs : List Field) → ranged b fs ≡ b && in_range fs vs
-  ranged_all b [] = sym (and-true b)
-  ranged_all b (f ∷ fs) = ranged_all (b && f.range (get_or vs f.index (pos 0))) fs ∙ and_assoc b _ _
-
-pub in_row : (c : Call) {fs : List Field} → fs ≡ brackets c.kind →
-    ranged (values c) true fs ≡ in_range (brackets c.kind) (values c)
-in_row c {fs} e = ranged_all (values c) true fs ∙ ap (λ (row : List Field). in_range row (values c)) e
-
--- ── Each other field zero ──────────────────────────────────────────────────────────────────────
+use Rattle.rules.specs.declared.Kind.{Kind}
+use Rattle.rules.specs.Kinds.{kind_number}
+use Rattle.rules.specs.Numbers.{Field, brackets, is_used, unused_zero, values}
 
 -- fields, each as whether the row uses it and whether it is zero
 abbrev used_or_zero : List (Bool × Bool) → Bool
@@ -72,19 +53,9 @@ module _ (c : Call) (fs : List Field) where
       ∷ (is_used 7 fs, eqb c.spare 0)
       ∷ []
 
-  zeros_unused : zeros true fields ≡ unused_zero fs 0 (values c)
+  pub zeros_unused : zeros true fields ≡ unused_zero fs 0 (values c)
   zeros_unused = zeros_all true fields ∙ simp (is_zero_lem, and_comm, and_left)
 
-pub outside_row : (c : Call) {fs : List Field} → fs ≡ brackets c.kind →
-    zeros true (fields c fs) ≡ unused_zero (brackets c.kind) 0 (values c)
-outside_row c {fs} e = zeros_unused c fs ∙ ap (λ (row : List Field). unused_zero row 0 (values c)) e
-
--- ── The row of an account and a receipt ────────────────────────────────────────────────────────
-
-module _ (n : ℕ) where
-  pub named_lot : OneOf (5 ∷ 10 ∷ 12 ∷ 14 ∷ []) n → account ∷ receipt ∷ [] ≡ brackets n
-  named_lot h = at_keys brackets (5 ∷ 10 ∷ 12 ∷ 14 ∷ []) (refl, (refl, (refl, (refl, tt)))) h
-
-  -- 7 and 8: what is left from 3 to 8 when the other arms' kinds are taken out
-  pub left_lot : 3 ≤ n → n ≢ 3 → n ≢ 4 → n ≢ 5 → n ≢ 6 → n < 9 → account ∷ receipt ∷ [] ≡ brackets n
-  left_lot le n3 n4 n5 n6 lt = at_run brackets 7 2 (refl, (refl, tt)) (past (past (past (past le n3) n4) n5) n6) lt
+pub outside_row : (c : Call) (kind : Kind) {fs : List Field} → fs ≡ brackets (kind_number kind) →
+    zeros true (fields c fs) ≡ unused_zero (brackets (kind_number kind)) 0 (values c)
+outside_row c kind {fs} e = zeros_unused c fs ∙ ap (λ (row : List Field). unused_zero row 0 (values c)) e

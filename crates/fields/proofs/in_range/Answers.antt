@@ -1,87 +1,11 @@
-use mathlib.Core.List.{[], ◌∷◌}
-use mathlib.Core.Logic.{inl}
-use mathlib.Core.Path.{◌≡◌, sym, ap, refl}
-use native.Mathlib.Omega.{arith}
-use Rattle.std.proofs.Common.{ne_eqb}
-use types.Run.{OneOf}
-use mir.Syntax.{w32}
-use mir.Val.{to_z, of_z}
-use mir.Facts.{to_z-of_z}
-use borrow.Author.Rules.{rules}
-use Rattle.rules.specs.Numbers.{brackets}
-use Rattle.rules.specs.Laws.Arms.{at_run, no_key, above}
-use Rattle.fields.proofs.UsedFields.{in_row, named_lot, left_lot}
+use Rattle.std.proofs.Common.{sym, ap, ◌∙◌}
+use Rattle.rules.specs.Numbers.{in_range, values}
+use Rattle.fields.proofs.Rows.{row_read, no_row}
 use Rattle.fields.proofs.in_range.Goals as goal
-use Rattle.fields.proofs.in_range.Goals.{Start, in-5-1, in_default+else-kind-lt1+else-kind-lt3+then-kind-lt9}
 
--- the basis as the machine holds it
-kept : (c : Start) → to_z w32 (of_z w32 c.args.c.basis) ≡ c.args.c.basis
-kept c = to_z-of_z {w = w32} (search rules)
+pub returns-in-Ok : goal.returns-in-Ok
+returns-in-Ok c =
+    c.ranges_of.ensures ∙ ap (λ row. in_range row (values c.args.c)) (row_read _ _ (sym c.try_from.ensures ∙ c.in-Ok.is))
 
-pub returns-in-3 : goal.returns-in-3
-returns-in-3 c =
-    rw (
-      c.names_lot.ensures,
-      c.is_premium.ensures,
-      c.is_weight.ensures,
-      kept c.before.before.before.before.before,
-    )
-    (in_row c.args.c (ap brackets (sym c.in-3.is)))
-
-pub returns-in-4 : goal.returns-in-4
-returns-in-4 c =
-    rw (
-      c.names_lot-in-4.ensures,
-      c.is_contract.ensures,
-      c.is_days.ensures,
-      c.is_basis.ensures,
-      kept c.before.before.before.before.before.before,
-    )
-    (in_row c.args.c
-    (ap brackets (sym c.in-4.is)))
-
-pub returns-in-6 : goal.returns-in-6
-returns-in-6 c =
-    rw (c.names_lot-in-6.ensures, c.is_price.ensures)
-    (in_row c.args.c (ap brackets (sym c.in-6.is)))
-
-pub returns-in-9 : goal.returns-in-9
-returns-in-9 c =
-    rw (c.is_contract-in-9.ensures, c.is_ask.ensures)
-    (in_row c.args.c (ap brackets (sym c.in-9.is)))
-
-pub returns-in-13 : goal.returns-in-13
-returns-in-13 c =
-    rw (c.names_lot-in-13.ensures, c.is_amount.ensures)
-    (in_row c.args.c (ap brackets (sym c.in-13.is)))
-
-pub returns-in-1 : goal.returns-in-1
-returns-in-1 c =
-    rw (c.is_account.ensures, c.is_amount-in-1.ensures)
-    (in_row c.args.c
-    (at_run brackets 1 2 {n = c.args.c.kind} (refl, (refl, tt)) (omega arith) (omega arith)))
-
-pub returns-in_default : goal.returns-in_default
-returns-in_default c = in_row c.args.c (at_run brackets 0 1 {n = c.args.c.kind} (refl, tt) (omega arith) (omega arith))
-
-pub returns-in_default-2 : goal.returns-in_default-2
-returns-in_default-2 c =
-    let a = c.args.c in
-    in_row a {fs = []}
-    (simp (
-      above a.kind 9 (omega arith),
-      ne_eqb a.kind 9 (omega arith),
-      no_key a.kind (5 ∷ 10 ∷ 12 ∷ 14 ∷ []) (assumption c),
-      ne_eqb a.kind 13 (omega arith),
-    ))
-
-pub returns-in-5 : goal.returns-in-5
-returns-in-5 c =
-    rw c.names_lot-in-5.ensures
-    (in_row c.args.c
-    (elim c.in-5-1.branch [
-      | in-5-1 w ↦ named_lot c.args.c.kind (assumption w)
-      | in_default+else-kind-lt1+else-kind-lt3+then-kind-lt9 w ↦
-          let lots : OneOf (5 ∷ 10 ∷ 12 ∷ 14 ∷ []) c.args.c.kind → ⊥ = assumption w in
-          left_lot c.args.c.kind (omega arith) (omega arith) (omega arith) (λ e. lots (inl e)) (omega arith) (omega arith)
-    ]))
+pub returns-in-Err : goal.returns-in-Err
+returns-in-Err c = ap (λ row. in_range row (values c.args.c)) (no_row _ _ (sym c.try_from.ensures ∙ c.in-Err.is))
