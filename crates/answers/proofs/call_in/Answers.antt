@@ -15,17 +15,11 @@ call_eq : {k a r q d s s' n n' : ℕ} {b b' : ℤ} {w w' : ℕ} → s ≡ s' →
     (record { kind = k; account = a; receipt = r; contract = q; days = d; spare = s'; amount = n'; basis = b'; weight = w' })
 call_eq e1 e2 e3 e4 = cc
 
-pub overflow_mul-spare : goal.overflow_mul-spare
-overflow_mul-spare c = omega (arith, c.wide.ensures.1)
-
-pub overflow_add-spare : goal.overflow_add-spare
-overflow_add-spare c = omega (arith, c.wide.ensures.1)
-
 pub returns : goal.returns
 unfolding call_in le_at
 returns c =
     call_eq
-    (omega (arith, le_at_add 2 1 c.args.s.now 5, c.get_u16.ensures, c.wide.ensures.0))
-    c.get_u64-amount.ensures
-    (to_z-of_z {w = w32} {z = c.get_i32-basis.result} (record { sfits = c.get_i32-basis.type_inv }) ∙ c.get_i32-basis.ensures)
-    c.get_u32-weight.ensures
+    (omega (arith, le_at_add 2 1 c.args.s.now 5, c.get_u16.ensures))
+    c.get_u64.ensures
+    (to_z-of_z {w = w32} {z = c.get_i32.result} (record { sfits = c.get_i32.type_inv }) ∙ c.get_i32.ensures)
+    c.get_u32.ensures

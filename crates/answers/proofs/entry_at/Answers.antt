@@ -12,4 +12,4 @@ returns c =
     let s = c.args.answer.now in
     let k = c.args.k in
     entry_eq (byte_of s k 0 (omega arith)) (byte_of s k 1 (omega arith)) (byte_of s k 2 (omega arith)) (byte_of s k 3 (omega arith))
-    (c.get_u32-number.ensures ∙ sym (le_at_part 4 s (entry_place k) 4 entry_length (omega arith)))
+    (c.get_u32.ensures ∙ sym (le_at_part 4 s (entry_place k) 4 entry_length (omega arith)))

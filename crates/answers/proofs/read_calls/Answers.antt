@@ -1,67 +1,70 @@
--- The loop's invariant: the calls of the first i records stand in the array. The measure is the records that are left.
-use mathlib.Core.List.{List, [], ◌∷◌, ◌++◌}
-use mathlib.Core.Path.{◌≡◌, refl, sym, ap, ◌∙◌}
-use Prim.Native.Nat.{ℕ, suc, ◌≤◌, ◌<◌, ◌+◌, ◌*◌, ◌-◌, ◌/◌}
-use native.Mathlib.Nat.{zero-add, div-mul-le_self}
-use native.Mathlib.Omega.{arith}
-use borrow.Author.Rules.{rules}
-use lib.ListN.{length, take, drop, length-set}
-use lib.Seq.{take-suc-set}
+-- The loop's invariant: the calls of the records so far stand in the array, and the records behind them are left.
+use Rattle.std.proofs.Common.{rules, ◌≡◌, refl, sym, ap, ◌∙◌, ◌+◌, ◌*◌, ◌/◌, ◌≤◌, ◌<◌, length, take, drop, ℕ, List, [], ◌∷◌, ◌++◌, arith, zero-add, add-one, drop-drop, length-append, length-drop, length-set}
+use Rattle.std.proofs.Math.Seq.{take-append_seam, drop-append_seam, take-suc-set}
+use Rattle.std.specs.Slice.Iter.{chunks_exact_rest}
 use Rattle.image.specs.Table.{table, run_at}
-use Rattle.image.specs.Laws.Table.{map_table, part_wide, table_suc}
+use Rattle.image.specs.Laws.Table.{map_table, table_suc}
 use Rattle.rules.specs.declared.Call.{Call}
 use Rattle.answers.specs.Buffers.{call_length, call_or_none, call_records}
 use Rattle.answers.proofs.read_calls.Goals as goal
 
--- record i ends within the bytes
-ends : (i n : ℕ) → i < n / call_length → i * call_length + call_length ≤ n
-ends i n h = omega (arith, div-mul-le_self n call_length)
+-- the record in front of what is left, and what is left behind it
+module _ (s : List ℕ) (n : ℕ) (record' rest : List ℕ) (left : drop (n * call_length) s ≡ record' ++ rest) (whole : length record' ≡ call_length) where
+  this_record : record' ≡ run_at 0 call_length s n
+  this_record =
+      sym (take-append_seam record' rest) ∙ ap (λ (l : List ℕ). take (length record') l) (sym left) ∙ ap (λ (w : ℕ). take w (drop (n * call_length) s)) whole
+      ∙ ap (λ (at : ℕ). take call_length (drop at s)) (sym (zero-add (n * call_length)))
 
--- the slice of record i
-record_at : (i : ℕ) (s : List ℕ) → take (i * call_length + call_length - i * call_length) (drop (i * call_length) s) ≡ run_at 0 call_length s i
-record_at i s = part_wide (i * call_length) call_length s ∙ ap (λ (at : ℕ). take call_length (drop at s)) (sym (zero-add (i * call_length)))
+  next_records : rest ≡ drop ((n + 1) * call_length) s
+  next_records =
+      let next : n * call_length + call_length ≡ (n + 1) * call_length = omega arith in
+      sym (drop-append_seam record' rest) ∙ ap (λ (l : List ℕ). drop (length record') l) (sym left) ∙ ap (λ (w : ℕ). drop w (drop (n * call_length) s)) whole
+      ∙ drop-drop call_length (n * call_length) s ∙ ap (λ (at : ℕ). drop at s) next
+
+  room_for_it : (n + 1) * call_length ≤ length s
+  room_for_it = omega (arith, ap length left, length-append record' rest, length-drop (n * call_length) s)
 
 pub loop-i-init : goal.loop-i-init
 unfolding table
-loop-i-init c = (omega arith, search rules, refl)
-
-pub overflow_mul-at : goal.overflow_mul-at
-overflow_mul-at c = omega (arith, ends _ _ c.loop-i-test.true)
-
-pub overflow_add-end : goal.overflow_add-end
-overflow_add-end c = omega (arith, ends _ _ c.loop-i-test.true)
-
-pub slice_bounds-read_call-end : goal.slice_bounds-read_call-end
-slice_bounds-read_call-end c = omega (arith, ends _ _ c.loop-i-test.true)
-
-pub offset_bounds-calls-i : goal.offset_bounds-calls-i
-offset_bounds-calls-i c = omega (arith, ends _ _ c.loop-i-test.true)
-
-pub bounds-calls-i : goal.bounds-calls-i
-bounds-calls-i c = omega (arith, ends _ _ c.loop-i-test.true, c.requires)
-
-pub overflow_add-i : goal.overflow_add-i
-overflow_add-i c = omega arith
-
-pub loop-i-smaller : goal.loop-i-smaller
-loop-i-smaller c = omega arith
+loop-i-init c =
+    let none : c.into_iter-i-iterator.result.count ≡ 0 = search rules in
+    record {
+      room = refl;
+      whole = search rules;
+      left = rw none (search rules);
+      within = rw none (omega arith);
+      read = rw none refl;
+    }
 
 pub loop-i-preserved : goal.loop-i-preserved
 loop-i-preserved c =
     let l = c.loop-i in
     let s = c.args.s.now in
-    let inside : l.i < length l.calls = omega (arith, ends _ _ c.loop-i-test.true, c.requires) in
-    let one : l.i + 1 ≡ suc l.i = omega arith in (
-      omega arith,
-      length-set l.calls l.i _ ∙ l.invariant.1,
-      rw (table_suc, one, take-suc-set l.calls l.i c.read_call-c.result inside, l.invariant.2)
-          (ap (λ (x : Call). table l.i (λ k. call_or_none (run_at 0 call_length s k)) ++ (x ∷ [])) (c.read_call-c.ensures ∙ ap call_or_none (record_at l.i s))),
-    )
+    let n : ℕ = l.i-iterator.count in
+    let t = c.next.new.self in
+    let steps = c.in-Some.ensures.steps in
+    let left : drop (n * call_length) s ≡ c.in-Some.record.now ++ chunks_exact_rest t.iter = sym l.invariant.left ∙ steps.0.1.0 in
+    let whole : length c.in-Some.record.now ≡ call_length = steps.0.1.1 ∙ l.invariant.whole in
+    let next : t.count ≡ n + 1 = steps.2 in
+    let inside : n < length l.calls = omega (arith, room_for_it s n c.in-Some.record.now (chunks_exact_rest t.iter) left whole, l.invariant.room, c.requires) in
+    let call : c.read_call.result ≡ call_or_none (run_at 0 call_length s n) = c.read_call.ensures ∙ ap call_or_none (this_record s n c.in-Some.record.now (chunks_exact_rest t.iter) left whole) in
+    record {
+      room = simp length-set l.invariant.room;
+      whole = steps.0.0 ∙ l.invariant.whole;
+      left = next_records s n c.in-Some.record.now (chunks_exact_rest t.iter) left whole ∙ ap (λ (i : ℕ). drop (i * call_length) s) (sym next);
+      within = rw next (room_for_it s n c.in-Some.record.now (chunks_exact_rest t.iter) left whole);
+      read = rw (next, steps.1, table_suc, add-one, take-suc-set l.calls n c.read_call.result inside, l.invariant.read)
+          (ap (λ (x : Call). table n (λ k. call_or_none (run_at 0 call_length s k)) ++ (x ∷ [])) call);
+    }
 
 pub returns : goal.returns
 unfolding call_records
 returns c =
     let l = c.loop-i in
     let s = c.args.s.now in
-    let e : l.i ≡ length s / call_length = omega arith in
-    ap (λ (n : ℕ). take n l.calls) (sym e) ∙ l.invariant.2 ∙ ap (λ (n : ℕ). table n (λ k. call_or_none (run_at 0 call_length s k))) e ∙ sym (map_table call_or_none (length s / call_length) (run_at 0 call_length s))
+    let n : ℕ = l.i-iterator.count in
+    let steps = c.in-None.ensures.steps in
+    let e : n ≡ length s / call_length =
+    omega (arith, l.invariant.within, ap length l.invariant.left, length-drop (n * call_length) s, l.invariant.whole, steps.0.1.0) in
+    ap (λ (i : ℕ). take i l.calls) (sym e) ∙ l.invariant.read ∙ ap (λ (i : ℕ). table i (λ k. call_or_none (run_at 0 call_length s k))) e
+    ∙ sym (map_table call_or_none (length s / call_length) (run_at 0 call_length s))
