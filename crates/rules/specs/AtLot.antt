@@ -1,6 +1,6 @@
 -- What a rule does at a lot: nothing, or an event.
 -- Assumes nothing.
-use Rattle.std.specs.Prelude.{Option, Some, None}
+use Rattle.std.specs.Prelude.{Option, Some}
 use Rattle.rules.specs.declared.Entry.{Entry}
 use Rattle.rules.specs.declared.Event.{Event}
 use Rattle.zone.specs.declared.Receipt.{Receipt}

@@ -35,6 +35,7 @@ impl TryFrom<u8> for Kind {
 
     ghost try_from_gives = { λ n r. r ≡ kind_of n };
 
+    #[tactic(auto, unfolding(crate::specs::Kinds::kind_of))]
     fn try_from(number: u8) -> Result<Kind, Refusal> {
         match number {
             1 => Ok(Kind::PayIn),
