@@ -2,3 +2,4 @@ pub mod Good
 pub mod Swept
 pub mod Lots
 pub mod Ordered
+pub mod Performed

@@ -1,32 +1,17 @@
 -- Only a morning close and a day close have an ending.
-use mathlib.Core.Bool.{false}
-use mathlib.Core.Path.{◌≡◌, ap, ◌∙◌}
-use Prim.Native.Nat.{◌+◌, ◌≤◌}
-use native.Mathlib.Omega.{arith}
-use borrow.Author.Tests.{ne_eqb}
+use Rattle.std.proofs.Common.{false, ap, ◌∙◌, ◌+◌, ◌≤◌, arith}
 use Rattle.units.specs.Ranges.{last_day}
 use Rattle.zone.specs.declared.Zone.{Zone}
 use Rattle.zone.specs.Parts.{with_clock}
 use Rattle.image.specs.Image.{decode, encode}
 use Rattle.image.specs.Laws.RoundTrip.{same_long}
-use Rattle.rules.specs.declared.Call.{Call}
 use Rattle.rules.specs.Effects.{ending}
 use Rattle.events.specs.Laws.Moved.{encoded}
 use Rattle.calls.specs.Laws.Good.{cleared}
 use Rattle.calls.proofs.end_call.Goals as goal
 
-as_was : (c : Call) (z : Zone) → (c.kind ≡ 11 → ⊥) → (c.kind ≡ 15 → ⊥) → z ≡ ending c z
-unfolding ending
-as_was c z p q = rw (ne_eqb _ 11 p, ne_eqb _ 15 q)
-
 pub day_in-day-requires : goal.day_in-day-requires
 day_in-day-requires c = same_long _ c.requires.0
-
-pub clock-requires : goal.clock-requires
-clock-requires c = c.requires.0
-
-pub no_asks-requires : goal.no_asks-requires
-no_asks-requires c = c.requires.0
 
 pub overflow_add-day : goal.overflow_add-day
 unfolding decode
@@ -34,19 +19,16 @@ overflow_add-day c =
     let h : c.day_in-day.result ≤ last_day = rw c.day_in-day.ensures c.requires.1.day in
     omega arith
 
-pub clock-requires-in-15 : goal.clock-requires-in-15
-clock-requires-in-15 c = encoded _ _ c.no_asks.ensures (cleared c.args.image.now _ c.requires.1 c.no_asks.ensures)
+pub clock-requires-in-DayClose : goal.clock-requires-in-DayClose
+clock-requires-in-DayClose c = encoded _ _ c.no_asks.ensures (cleared c.args.image.now _ c.requires.1 c.no_asks.ensures)
 
-pub returns-in-11 : goal.returns-in-11
+pub returns-in-MorningClose : goal.returns-in-MorningClose
 unfolding ending decode
-returns-in-11 c = c.clock.ensures ∙ rw (c.day_in-day.ensures, c.in-11.is)
+returns-in-MorningClose c = λ call kind. c.clock.ensures ∙ rw (c.day_in-day.ensures, kind, c.in-MorningClose.is)
 
-pub returns-in-15 : goal.returns-in-15
+pub returns-in-DayClose : goal.returns-in-DayClose
 unfolding ending decode
-returns-in-15 c =
-    c.clock-in-15.ensures
+returns-in-DayClose c =
+    λ call kind. c.clock-in-DayClose.ensures
     ∙ ap (λ (y : Zone). encode (with_clock y (c.day_in-day.result + 1) false)) (cleared c.args.image.now _ c.requires.1 c.no_asks.ensures)
-    ∙ rw (c.day_in-day.ensures, c.in-15.is)
-
-pub returns-in_default : goal.returns-in_default
-returns-in_default c = c.requires.0 ∙ ap encode (as_was c.args.c _ (omega arith) (omega arith))
+    ∙ rw (c.day_in-day.ensures, kind, c.in-DayClose.is)

@@ -1,17 +1,12 @@
--- The loop: image and answer are those of a sweep through the lots so far.
-use mathlib.Core.Path.{◌≡◌}
-use Prim.Native.Nat.{◌-◌, ◌≤◌}
+-- Image and answer are those of a sweep through the lots so far.
+use Rattle.std.proofs.Common.{◌-◌}
 use Rattle.units.specs.Ranges.{receipt_count}
-use Rattle.image.specs.Image.{decode, encode}
-use Rattle.rules.specs.Effects.{rule_at}
-use Rattle.rules.specs.Events.{sweep}
-use Rattle.answers.specs.Buffers.{listed}
+use Rattle.image.specs.Image.{decode}
+use Rattle.calls.specs.Laws.Swept.{SweptTo}
 use Rattle.calls.proofs.sweep_lots.Given as goal
 
 abbrev pub invariant-loop-i : goal.invariant-loop-i
-invariant-loop-i l =
-    (l.i ≤ receipt_count) × (l.image ≡ encode (sweep (rule_at l.c) l.i 1 (decode l.initial.image)).zone) × ((l.count, l.answer) ≡ listed (sweep (rule_at l.c) l.i 1 (decode l.initial.image)).entries l.initial.answer)
+invariant-loop-i l = SweptTo l.c (decode l.initial.image) l.initial.answer l.k l.image (l.count, l.answer)
 
 abbrev pub decreases-loop-i : goal.decreases-loop-i
-decreases-loop-i l =
-    receipt_count - l.i
+decreases-loop-i l = receipt_count - l.k

@@ -7,8 +7,7 @@ use Rattle.units.specs.Ranges.{is_receipt, receipt_count}
 use Rattle.zone.specs.declared.Zone.{Zone}
 use Rattle.zone.specs.Laws.Tests.{InRange, range_in}
 use Rattle.rules.specs.AtLot.{AtLot}
-use Rattle.rules.specs.AtLot.{one_event}
-use Rattle.std.specs.Prelude.{Option, Some, None}
+use Rattle.std.specs.Prelude.{Some, None}
 use Rattle.rules.specs.declared.Call.{Call}
 use Rattle.rules.specs.Effects.{rule_at, rule_of, no_rule, sweeps, opening, first_lot, lot_count, sweep_kinds}
 use Rattle.rules.specs.Events.{after_lot, sweep}
@@ -51,7 +50,7 @@ can_post {c} {z} G P h = go (rule_at c z c.receipt) refl
 
     go : (a : AtLot) → rule_at c z c.receipt ≡ a → CanPost z a
     go None q = tt
-    go (one_event e r) q = visit_posts G R.low R.high (named refl P) q
+    go (Some event) q = visit_posts G R.low R.high (named refl P) q
 
 module _ (z : Zone) (G : Good z) (c : Call) where
   one_here : (b : Call) → opening b z ≡ z → lot_count b ≡ 1 → first_lot b ≡ b.receipt → PassedAt b z b.receipt

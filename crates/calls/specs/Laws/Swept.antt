@@ -7,11 +7,10 @@ use Prim.Native.Nat.{ℕ, zero, suc, ◌+◌, ◌≤◌, ◌<◌}
 use Rattle.std.proofs.Math.Decide.{ℕ_discrete}
 use native.Mathlib.Omega.{arith}
 use Rattle.std.proofs.lemmas.List.Edits.{sets}
+use Rattle.std.proofs.Math.Seq.{length-sets}
 use Rattle.units.specs.Ranges.{receipt_count}
 use Rattle.zone.specs.declared.Zone.{Zone}
 use Rattle.rules.specs.AtLot.{AtLot}
-use Rattle.rules.specs.AtLot.{one_event}
-use Rattle.std.specs.Prelude.{Option, Some, None}
 use Rattle.rules.specs.declared.Call.{Call}
 use Rattle.rules.specs.declared.Entry.{Entry}
 use Rattle.rules.specs.Effects.{rule_at, sweeps}
@@ -19,17 +18,19 @@ use Rattle.rules.specs.Events.{Done, after_lot, sweep}
 use Rattle.rules.specs.Laws.Chain.{swept}
 use Rattle.rules.specs.Laws.Good.{Good}
 use Rattle.rules.specs.Laws.Links.{after_good}
+use Rattle.image.specs.Image.{decode, encode, Encoded}
 use Rattle.image.specs.Table.{table_bytes}
 use Rattle.answers.specs.Buffers.{entry_place, entry_bytes, listed}
 use Rattle.answers.specs.Laws.Entries.{put_next}
-use Rattle.std.specs.Prelude.{Option}
-use Rattle.std.specs.Prelude.{Some, None}
-use Rattle.lots.specs.Noted.{entries_of}
+use Rattle.std.specs.Prelude.{Option, Some, None}
+use Rattle.lots.specs.Concerned.{PassedOver}
+use Rattle.lots.specs.Noted.{entries_of, Worked}
+use Rattle.calls.specs.Laws.Good.{Of, bytes_of}
 
 -- the count and the answer that the code has after one step more
-abbrev pub recorded : ℕ × List ℕ → Noted → ℕ × List ℕ
-recorded s Nothing = s
-recorded s (One e) = (s.0 + 1, sets s.1 (entry_place s.0) (entry_bytes e))
+abbrev pub recorded : ℕ × List ℕ → Option Entry → ℕ × List ℕ
+recorded s None = s
+recorded s (Some e) = (s.0 + 1, sets s.1 (entry_place s.0) (entry_bytes e))
 
 -- what the lots so far did, and one step more
 abbrev further : Done → AtLot → Done
@@ -74,7 +75,7 @@ module _ (rule : Zone → ℕ → AtLot) where
 -- at most one entry a lot
 few : (z : Zone) (s : AtLot) → length (after_lot z s).entries ≤ 1
 few z None = omega arith
-few z (one_event e r) = omega arith
+few z (Some event) = omega arith
 
 pub sweep_few : (rule : Zone → ℕ → AtLot) (more n : ℕ) (z : Zone) → length (sweep rule more n z).entries ≤ more
 unfolding sweep
@@ -88,9 +89,9 @@ sweep_few rule (suc more) n z =
 pub same_listed : {m n : ℕ} {k l : List ℕ} → m ≡ n → k ≡ l → ◌≡◌ {A = ℕ × List ℕ} (m, k) (n, l)
 same_listed q r = λ i. (q i, r i)
 
-recorded_more : (l : List Entry) (noted : Noted) (answer : List ℕ) → recorded (listed l answer) noted ≡ listed (l ++ entries_of noted) answer
-recorded_more l Nothing answer = ap (λ (es : List Entry). listed es answer) (sym (append-nil l))
-recorded_more l (One e) answer = same_listed (sym (length-append l (e ∷ []))) (put_next l e answer)
+recorded_more : (l : List Entry) (noted : Option Entry) (answer : List ℕ) → recorded (listed l answer) noted ≡ listed (l ++ entries_of noted) answer
+recorded_more l None answer = ap (λ (es : List Entry). listed es answer) (sym (append-nil l))
+recorded_more l (Some e) answer = same_listed (sym (length-append l (e ∷ []))) (put_next l e answer)
 
 -- one entry alone
 pub one_listed : (e : Entry) (answer : List ℕ) {answer' : List ℕ} → answer' ≡ sets answer (entry_place 0) (entry_bytes e) → (1, answer') ≡ listed (e ∷ []) answer
@@ -128,10 +129,57 @@ module _ (c : Call) (z : Zone) (all : sweeps c.kind ≡ true) (G : Good z) where
         ap (λ (s : AtLot). (after_lot so_far.zone s).zone) next
         ∙ rw (add-one i, sweep_more (rule_at c) i 1 (1 + i) z refl)
 
-    pub next_entries : (noted : Noted) (answer : List ℕ) → entries_of noted ≡ (after_lot so_far.zone (rule_at c so_far.zone (i + 1))).entries
+    pub next_entries : (noted : Option Entry) (answer : List ℕ) → entries_of noted ≡ (after_lot so_far.zone (rule_at c so_far.zone (i + 1))).entries
         → recorded (listed so_far.entries answer) noted ≡ listed (sweep (rule_at c) (i + 1) 1 z).entries answer
     next_entries noted answer e =
         recorded_more so_far.entries noted answer
         ∙ ap (λ (es : List Entry). listed (so_far.entries ++ es) answer) e
         ∙ ap (λ (s : AtLot). listed (so_far.entries ++ (after_lot so_far.zone s).entries) answer) next
         ∙ rw (add-one i, sweep_more (rule_at c) i 1 (1 + i) z refl)
+
+-- ── The lots so far ────────────────────────────────────────────────────────────────────────────
+
+-- the first k lots swept: the image, and the count with the answer
+pub record SweptTo (c : Call) (z : Zone) (answer : List ℕ) (k : ℕ) (image : List ℕ) (made : ℕ × List ℕ) : Type 0 where
+  pub lots : k ≤ receipt_count
+  pub image_is : image ≡ encode (sweep (rule_at c) k 1 z).zone
+  pub made_is : made ≡ listed (sweep (rule_at c) k 1 z).entries answer
+
+pub none_yet : (c : Call) (s answer : List ℕ) → Encoded s → SweptTo c (decode s) answer 0 s (0, answer)
+unfolding sweep table_bytes
+none_yet c s answer e = record { lots = omega arith; image_is = e; made_is = refl }
+
+-- the answer is as long as it was
+pub still_long : {c : Call} {z : Zone} {answer : List ℕ} {k : ℕ} {image : List ℕ} {made : ℕ × List ℕ} → SweptTo c z answer k image made
+    → length made.1 ≡ length answer
+still_long S = ap (λ (m : ℕ × List ℕ). length m.1) S.made_is ∙ simp length-sets
+
+module _ {c : Call} {z : Zone} {answer : List ℕ} {k : ℕ} {image : List ℕ} {made : ℕ × List ℕ} (all : sweeps c.kind ≡ true) (G : Good z)
+    (S : SweptTo c z answer k image made) where
+  -- the image is that of a good zone
+  pub so_far_good : Of image (sweep (rule_at c) k 1 z).zone
+  so_far_good = bytes_of image _ S.image_is (good_at c z all G k S.lots)
+
+  -- lots at which the rule has no event leave all as it was
+  pub further_on : {i : ℕ} → k ≤ i → i ≤ receipt_count → PassedOver c (decode image) k i → SweptTo c z answer i image made
+  further_on {i} h m none =
+      let same : sweep (rule_at c) i 1 z ≡ sweep (rule_at c) k 1 z =
+      sweep_past (rule_at c) k i z h (λ j a b. rw (← so_far_good.zone) (none j a b)) in
+      record { lots = m; image_is = rw same S.image_is; made_is = rw same S.made_is }
+
+  -- an entry more has room before the last lot
+  pub has_room : k < receipt_count → made.0 < receipt_count
+  has_room h = omega (arith, room c z all G k h, ap (λ (m : ℕ × List ℕ). m.0) S.made_is)
+
+  -- one lot more, with what is noted of it
+  pub one_more : {image' : List ℕ} {made' : ℕ × List ℕ} (noted : Option Entry) → k < receipt_count → Worked c (k + 1) image image' noted
+      → made' ≡ recorded made noted → SweptTo c z answer (k + 1) image' made'
+  one_more noted h w e =
+      let rule = rule_at c in
+      let H = so_far_good in
+      record {
+        lots = omega arith;
+        image_is = w.0 ∙ ap (λ (y : Zone). encode (after_lot y (rule y (k + 1))).zone) H.zone ∙ ap encode (next_zone c z all G k h);
+        made_is = e ∙ ap (λ (m : ℕ × List ℕ). recorded m noted) S.made_is
+            ∙ next_entries c z all G k h noted answer (w.1 ∙ ap (λ (y : Zone). (after_lot y (rule y (k + 1))).entries) H.zone);
+      }

@@ -1,6 +1,5 @@
 -- The record is put. With the money the deposit is freed and full is frozen; without it the deposit passes.
-use mathlib.Core.Path.{◌≡◌, sym, ap, ◌∙◌}
-use native.Mathlib.Omega.{arith}
+use Rattle.std.proofs.Common.{◌≡◌, sym, ap, ◌∙◌, arith}
 use Rattle.units.specs.declared.Fen.{Fen}
 use Rattle.units.specs.Payments.{fen, deposit}
 use Rattle.zone.specs.declared.Lot.TheVariants.{Idle, Settled}
@@ -10,23 +9,22 @@ use Rattle.zone.specs.Laws.Held.{full_le}
 use Rattle.zone.specs.Record.{trade_of}
 use Rattle.image.specs.Image.{decode}
 use Rattle.image.specs.Laws.RoundTrip.{same_long}
-use Rattle.rules.specs.Effects.{entry_of, owned_by, with_lot, has_money}
+use Rattle.rules.specs.Effects.{entry_of, owned_by, with_lot}
 use Rattle.rules.specs.Events.{credit, debit, release, freeze}
 use Rattle.rules.specs.Laws.Funded.{pass_free, hold_free, all_debited}
-use Rattle.rules.specs.View.{view_of}
 use Rattle.events.specs.Laws.Moved.{Moved, record_kept, next, released, debited, credited}
 use Rattle.events.specs.Laws.Nothing.{debit_nothing, credit_nothing}
-use Rattle.closes.specs.Laws.Closing.{Begun, tells_money, hold_from, settled_begun, buyer_begun, settles, buyer_defaults, worked, ended, held_anew, passed_on, old_in, from_in, to_in, new_in, asked, due_valid, buyer_limit}
+use Rattle.closes.specs.Laws.Closing.{affords, Begun, tells_money, hold_from, settled_begun, buyer_begun, settles, buyer_defaults, worked, ended, held_anew, passed_on, old_in, from_in, to_in, new_in, asked, due_valid, buyer_limit}
 use Rattle.closes.proofs.close_lodged.Goals as goal
 use Rattle.closes.proofs.close_lodged.Goals.{After-has_money, After-receipt_record, After-release_to, After-receipt_record-2, After-release_to-2, After-debit_from}
 
-tested : (c : After-has_money) → c.has_money.result ≡ has_money (view_of (decode c.args.image.now) c.args.c.account c.args.f) c.args.f
+tested : (c : After-has_money) → c.has_money.result ≡ affords c.args.image.now c.args.f
 tested c = tells_money c.requires.0 c.has_money.ensures c.full_of-full.ensures c.free_of.ensures
 
 -- ── With the money ─────────────────────────────────────────────────────────────────────────────
 bought : (c : After-receipt_record) →
     Begun c.args.image.now c.receipt_record.new.image (entry_of c.args.n 8 c.args.f.seller c.args.f.buyer (full c.args.f).0) (owned_by c.args.f.buyer c.args.f (Settled (trade_of c.args.f))) (hold_from c.args.f.buyer c.deposit_per_receipt-held.result) (fen 0) (hold_from c.args.f.buyer c.full_of-full.result)
-bought c = settled_begun c.requires.0 c.receipt_record.ensures c.requires.1 (sym (tested c.before.before.before.before) ∙ c.if-has_money.true) c.deposit_per_receipt-held.ensures c.full_of-full.ensures c.settled_record.ensures
+bought c = settled_begun c.requires.0 (rw c.from-k.ensures at c.receipt_record.ensures) c.requires.1 (sym (tested c.before.before.before.before) ∙ c.if-has_money.true) c.deposit_per_receipt-held.ensures c.full_of-full.ensures c.settled_record.ensures
 
 freed : (c : After-release_to) → Moved c.receipt_record.new.image c.release_to.new.image (release c.args.f.buyer c.deposit_per_receipt-held.result (decode c.receipt_record.new.image).accounts)
 freed c =
@@ -36,7 +34,7 @@ freed c =
 -- ── Without ────────────────────────────────────────────────────────────────────────────────────
 lost : (c : After-receipt_record-2) →
     Begun c.args.image.now c.receipt_record-2.new.image (entry_of c.args.n 12 c.args.f.seller c.args.f.buyer deposit.0) (with_lot c.args.f Idle) (hold_from c.args.f.buyer c.deposit_per_receipt-held.result) c.deposit_per_receipt-held.result (hold_from 0 (fen 0))
-lost c = buyer_begun c.requires.0 c.receipt_record-2.ensures c.requires.1 (sym (tested c.before.before.before.before) ∙ c.if-has_money.false) c.deposit_per_receipt-held.ensures c.idle_record.ensures
+lost c = buyer_begun c.requires.0 (rw c.from-k.ensures at c.receipt_record-2.ensures) c.requires.1 (sym (tested c.before.before.before.before) ∙ c.if-has_money.false) c.deposit_per_receipt-held.ensures c.idle_record.ensures
 
 freed_2 : (c : After-release_to-2) → Moved c.receipt_record-2.new.image c.release_to-2.new.image (release c.args.f.buyer c.deposit_per_receipt-held.result (decode c.receipt_record-2.new.image).accounts)
 freed_2 c =
@@ -50,8 +48,6 @@ taken c =
     debited _ B.fits B.funds (freed_2 c.before.before.before.before) c.debit_from.ensures
 
 -- ── Needs ──────────────────────────────────────────────────────────────────────────────────────
-pub overflow_sub-k : goal.overflow_sub-k
-overflow_sub-k c = omega (arith, c.requires.0.at.low)
 
 pub full_of-full-requires : goal.full_of-full-requires
 full_of-full-requires c = (bounds c.args.f (due_valid c.requires.0)).weight
@@ -87,7 +83,7 @@ returns-then-has_money c =
     let a = c.args in
     let held = c.deposit_per_receipt-held.result in
     let whole = c.full_of-full.result in
-    worked a.c a.n a.image.now (settles c.requires.0 c.requires.1 h)
+    λ call kind. worked call a.n a.image.now (settles c.requires.0 call kind c.requires.1 h)
     (ended (bought (goal.at.returns-then-has_money c).After-receipt_record) (λ l. freeze a.f.buyer whole (release a.f.buyer held l))
     (held_anew (hold_from a.f.buyer held) a.f.buyer a.f.seller (hold_from a.f.buyer whole))
     (next (freeze a.f.buyer whole) (freed (goal.at.returns-then-has_money c).After-release_to) c.freeze_from.ensures))
@@ -119,7 +115,7 @@ returns c =
     let h = sym (tested (goal.at.returns c).After-has_money) ∙ c.if-has_money.false in
     let a = c.args in
     let held = c.deposit_per_receipt-held.result in
-    worked a.c a.n a.image.now (buyer_defaults c.requires.0 c.requires.1 h)
+    λ call kind. worked call a.n a.image.now (buyer_defaults c.requires.0 call kind c.requires.1 h)
     (ended B (λ l. credit a.f.seller held (debit a.f.buyer held (release a.f.buyer held l)))
     (passed_on (hold_from a.f.buyer held) a.f.buyer a.f.seller held 0)
     (credited _ B.fits B.funds (taken (goal.at.returns c).After-debit_from) c.credit_to.ensures).is)

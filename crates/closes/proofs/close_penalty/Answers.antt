@@ -1,7 +1,5 @@
 -- The record is put, and what the seller can pay passes to the buyer. The lot held nothing.
-use mathlib.Core.Path.{◌≡◌, ap, ◌∙◌}
-use Prim.Native.Nat.{◌≤◌}
-use native.Mathlib.Omega.{arith}
+use Rattle.std.proofs.Common.{◌≡◌, ap, ◌∙◌, ◌≤◌, arith}
 use Rattle.units.specs.declared.Fen.{Fen}
 use Rattle.units.specs.Laws.Bounds.{penalty_at_most}
 use Rattle.units.specs.Payments.{fen, per_receipt, penalty_passed}
@@ -24,16 +22,13 @@ pass c = c.penalty_passed-passed.ensures ∙ ap penalty_passed c.free_of.ensures
 
 begun : (c : After-receipt_record) →
     Begun c.args.image.now c.receipt_record.new.image (entry_of c.args.n 15 c.args.f.seller c.args.f.buyer (penalty_passed (free_of (decode c.args.image.now).accounts c.args.f.seller)).0) (with_lot c.args.f Idle) (hold_from c.args.f.buyer (fen 0)) c.penalty_passed-passed.result (hold_from 0 (fen 0))
-begun c = penalty_begun c.requires.0 c.receipt_record.ensures c.requires.1 (pass c.before.before.before) c.idle_record.ensures
+begun c = penalty_begun c.requires.0 (rw c.from-k.ensures at c.receipt_record.ensures) c.requires.1 (pass c.before.before.before) c.idle_record.ensures
 
 taken : (c : After-debit_from) →
     Moved c.receipt_record.new.image c.debit_from.new.image (debit c.args.f.seller c.penalty_passed-passed.result (release c.args.f.buyer (fen 0) (decode c.receipt_record.new.image).accounts))
 taken c =
     let B = begun c.before.before.before.before in
     debited _ B.fits B.funds (nothing_freed B) c.debit_from.ensures
-
-pub overflow_sub-k : goal.overflow_sub-k
-overflow_sub-k c = omega (arith, c.requires.0.at.low)
 
 pub free_of-requires : goal.free_of-requires
 free_of-requires c = same_long _ c.requires.0.at.encoded
@@ -61,7 +56,7 @@ pub returns : goal.returns
 returns c =
     let B = begun (goal.at.returns c).After-receipt_record in
     let M = credited _ B.fits B.funds (taken (goal.at.returns c).After-debit_from) c.credit_to.ensures in
-    worked c.args.c c.args.n c.args.image.now (pays_penalty c.requires.0 c.requires.1)
+    λ call kind. worked call c.args.n c.args.image.now (pays_penalty c.requires.0 call kind c.requires.1)
     (ended B (λ l. credit c.args.f.buyer c.penalty_passed-passed.result (debit c.args.f.seller c.penalty_passed-passed.result (release c.args.f.buyer (fen 0) l)))
     (passed_on (hold_from c.args.f.buyer (fen 0)) c.args.f.seller c.args.f.buyer c.penalty_passed-passed.result 0) M.is)
     (c.by_seller.ensures ∙ ap (λ (x : Fen). entry_of c.args.n 15 c.args.f.seller c.args.f.buyer x.0) (pass (goal.at.returns c).After-penalty_passed-passed))

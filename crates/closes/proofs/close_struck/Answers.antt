@@ -1,18 +1,15 @@
 -- In both cases the record is put and the deposit freed; nothing passes, and the lot holds nothing after.
-use mathlib.Core.Path.{◌≡◌, sym, ap, ◌∙◌}
-use Prim.Native.Nat.{ℕ, ◌+◌}
-use native.Mathlib.Omega.{arith}
+use Rattle.std.proofs.Common.{◌≡◌, sym, ap, ◌∙◌, ℕ, ◌+◌, arith}
 use Rattle.units.specs.Payments.{fen}
 use Rattle.zone.specs.declared.Lot.TheVariants.{Idle, PenaltyDue}
 use Rattle.zone.specs.Laws.Facts.{bounds}
 use Rattle.zone.specs.Record.{record_of}
 use Rattle.image.specs.Image.{decode}
 use Rattle.image.specs.Laws.RoundTrip.{same_long, valid_fits}
-use Rattle.rules.specs.Effects.{entry_of, with_lot, has_money}
+use Rattle.rules.specs.Effects.{entry_of, with_lot}
 use Rattle.rules.specs.Events.{release}
-use Rattle.rules.specs.View.{view_of}
 use Rattle.events.specs.Laws.Moved.{record_kept}
-use Rattle.closes.specs.Laws.Closing.{Begun, tells_money, hold_from, seller_begun, both_begun, seller_defaults, both_default, worked, ended, only_released, old_in, due_valid, buyer_limit}
+use Rattle.closes.specs.Laws.Closing.{affords, Begun, tells_money, hold_from, seller_begun, both_begun, seller_defaults, both_default, worked, ended, only_released, old_in, due_valid, buyer_limit}
 use Rattle.closes.proofs.close_struck.Goals as goal
 use Rattle.closes.proofs.close_struck.Goals.{After-day_in-tomorrow, After-has_money, After-receipt_record, After-receipt_record-2}
 
@@ -20,21 +17,18 @@ today : (c : After-day_in-tomorrow) → c.day_in-tomorrow.result ≡ (decode c.a
 unfolding decode
 today c = c.day_in-tomorrow.ensures
 
-tested : (c : After-has_money) → c.has_money.result ≡ has_money (view_of (decode c.args.image.now) c.args.c.account c.args.f) c.args.f
+tested : (c : After-has_money) → c.has_money.result ≡ affords c.args.image.now c.args.f
 tested c = tells_money c.requires.0 c.has_money.ensures c.full_of.ensures c.free_of.ensures
 
 owing : (c : After-receipt_record) →
     Begun c.args.image.now c.receipt_record.new.image (entry_of c.args.n 13 c.args.f.seller c.args.f.buyer 0) (with_lot c.args.f (PenaltyDue c.args.f.seller c.args.f.buyer ((decode c.args.image.now).day + 1))) (hold_from c.args.f.buyer c.deposit_per_receipt-held.result) (fen 0) (hold_from c.args.f.buyer (fen 0))
 owing c =
-    seller_begun c.requires.0 c.receipt_record.ensures c.requires.1 (sym (tested c.before.before.before.before) ∙ c.if-has_money.true) c.deposit_per_receipt-held.ensures
+    seller_begun c.requires.0 (rw c.from-k.ensures at c.receipt_record.ensures) c.requires.1 (sym (tested c.before.before.before.before) ∙ c.if-has_money.true) c.deposit_per_receipt-held.ensures
     (c.penalty_record.ensures ∙ ap (λ (d : ℕ). record_of (with_lot c.args.f (PenaltyDue c.args.f.seller c.args.f.buyer (d + 1)))) (today c.before.before.before.before.before.before.before.before))
 
 over : (c : After-receipt_record-2) →
     Begun c.args.image.now c.receipt_record-2.new.image (entry_of c.args.n 14 c.args.f.seller c.args.f.buyer 0) (with_lot c.args.f Idle) (hold_from c.args.f.buyer c.deposit_per_receipt-held.result) (fen 0) (hold_from 0 (fen 0))
-over c = both_begun c.requires.0 c.receipt_record-2.ensures c.requires.1 (sym (tested c.before.before.before.before) ∙ c.if-has_money.false) c.deposit_per_receipt-held.ensures c.idle_record.ensures
-
-pub overflow_sub-k : goal.overflow_sub-k
-overflow_sub-k c = omega (arith, c.requires.0.at.low)
+over c = both_begun c.requires.0 (rw c.from-k.ensures at c.receipt_record-2.ensures) c.requires.1 (sym (tested c.before.before.before.before) ∙ c.if-has_money.false) c.deposit_per_receipt-held.ensures c.idle_record.ensures
 
 pub day_in-tomorrow-requires : goal.day_in-tomorrow-requires
 day_in-tomorrow-requires c = same_long _ c.requires.0.at.encoded
@@ -63,7 +57,7 @@ pub returns-then-has_money : goal.returns-then-has_money
 returns-then-has_money c =
     let h = sym (tested (goal.at.returns-then-has_money c).After-has_money) ∙ c.if-has_money.true in
     let a = c.args in
-    worked a.c a.n a.image.now (seller_defaults c.requires.0 c.requires.1 h)
+    λ call kind. worked call a.n a.image.now (seller_defaults c.requires.0 call kind c.requires.1 h)
     (ended (owing (goal.at.returns-then-has_money c).After-receipt_record) (release a.f.buyer c.deposit_per_receipt-held.result) (only_released (hold_from a.f.buyer c.deposit_per_receipt-held.result) a.f.seller a.f.buyer a.f.buyer) c.release_to.ensures)
     c.by_seller.ensures
 
@@ -79,6 +73,6 @@ pub returns : goal.returns
 returns c =
     let h = sym (tested (goal.at.returns c).After-has_money) ∙ c.if-has_money.false in
     let a = c.args in
-    worked a.c a.n a.image.now (both_default c.requires.0 c.requires.1 h)
+    λ call kind. worked call a.n a.image.now (both_default c.requires.0 call kind c.requires.1 h)
     (ended (over (goal.at.returns c).After-receipt_record-2) (release a.f.buyer c.deposit_per_receipt-held.result) (only_released (hold_from a.f.buyer c.deposit_per_receipt-held.result) a.f.buyer a.f.seller 0) c.release_to-2.ensures)
     c.by_buyer.ensures

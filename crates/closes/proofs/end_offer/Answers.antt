@@ -1,63 +1,66 @@
 -- The record is put; the deposit of a bid is freed.
-use mathlib.Core.Path.{◌≡◌, refl, ◌∙◌}
-use native.Mathlib.Omega.{arith}
-use Rattle.units.specs.Payments.{fen}
-use Rattle.zone.specs.declared.Lot.TheVariants.{Idle}
+use Rattle.std.proofs.Common.{◌≡◌, ap, sym, ◌∙◌, arith}
+use Rattle.zone.specs.declared.State.TheVariants.{Listed, BidStands}
+use Rattle.zone.specs.Laws.States.{is_state}
+use Rattle.zone.specs.State.{state_number}
 use Rattle.image.specs.Image.{decode}
 use Rattle.image.specs.Laws.RoundTrip.{same_long, valid_fits}
+use Rattle.units.specs.Payments.{fen}
+use Rattle.zone.specs.declared.Lot.TheVariants.{Idle}
 use Rattle.rules.specs.Effects.{entry_of, with_lot}
 use Rattle.rules.specs.Events.{release}
 use Rattle.rules.specs.View.{record_of_receipt}
 use Rattle.events.specs.Laws.Moved.{record_in_place, record_kept}
-use Rattle.events.specs.Laws.Nothing.{release_nothing}
-use Rattle.closes.specs.Laws.Closing.{Begun, hold_from, listed_begun, bid_begun, ends, no_offer, idle_worked, worked, ended, only_released, old_in}
+use Rattle.closes.specs.Laws.Closing.{Begun, Offer, listed_offer, bid_offer, no_offer, offer_begun, idle_worked, worked, ended, only_released, old_in, ends, hold_from, other_state, another_state}
 use Rattle.closes.proofs.end_offer.Goals as goal
-use Rattle.closes.proofs.end_offer.Goals.{After-record_at-f, After-receipt_record, After-deposit_per_receipt}
+use Rattle.closes.proofs.end_offer.Goals.{After-record_at-f, After-receipt_record, Joined-state, in-Listed, in-BidStands}
 
 read : (c : After-record_at-f) → c.record_at-f.result ≡ record_of_receipt (decode c.args.image.now) c.args.n
-read c = c.record_at-f.ensures ∙ record_in_place _ c.requires.0.encoded (valid_fits _ c.requires.0.valid) c.args.n c.requires.0.low c.requires.0.high
-
-listed : (c : After-receipt_record) →
-    Begun c.args.image.now c.receipt_record.new.image (entry_of c.args.n 3 c.record_at-f.result.seller c.record_at-f.result.buyer 0) (with_lot c.record_at-f.result Idle) (hold_from c.record_at-f.result.buyer (fen 0)) (fen 0) (hold_from 0 (fen 0))
-listed c = listed_begun c.args.c c.args.n c.args.image.now c.requires.1 (read c.before.before.before.before.before) c.requires.0 c.receipt_record.ensures c.idle_record.ensures c.in-1.is
-
-bid : (c : After-deposit_per_receipt) →
-    Begun c.args.image.now c.receipt_record-in-2.new.image (entry_of c.args.n 3 c.record_at-f.result.seller c.record_at-f.result.buyer 0) (with_lot c.record_at-f.result Idle) (hold_from c.record_at-f.result.buyer c.deposit_per_receipt.result) (fen 0) (hold_from 0 (fen 0))
-bid c = bid_begun c.args.c c.args.n c.args.image.now c.requires.1 (read c.before.before.before.before.before.before.before.before.before) c.requires.0 c.receipt_record-in-2.ensures c.idle_record-in-2.ensures c.in-2.is c.deposit_per_receipt.ensures
-
-pub overflow_sub-k : goal.overflow_sub-k
-overflow_sub-k c = omega (arith, c.requires.0.low)
+read c = c.record_at-f.ensures ∙ rw c.from-k.ensures (record_in_place _ c.requires.encoded (valid_fits _ c.requires.valid) c.args.n c.requires.low c.requires.high)
 
 pub record_at-f-requires : goal.record_at-f-requires
-record_at-f-requires c = (same_long _ c.requires.0.encoded, omega (arith, c.requires.0.high))
+record_at-f-requires c = (same_long _ c.requires.encoded, omega (arith, c.requires.high))
 
-pub receipt_record-requires : goal.receipt_record-requires
-receipt_record-requires c = (c.requires.0.encoded, omega (arith, c.requires.0.high), record_kept _ c.idle_record.ensures)
+-- with no bid nothing was held, with one the deposit
+offer : (c : Joined-state) → Offer c.record_at-f.result c.match-state.held
+offer c =
+    let number : c.record_at-f.result.state ≡ state_number c.in-Ok.state = is_state _ _ (sym c.try_from.ensures ∙ c.in-Ok.is) in
+    elim c.match-state.branch [
+      | in-Listed w ↦ rw w.held-is (listed_offer (number ∙ ap state_number w.in-Listed.is))
+      | in-BidStands w ↦ bid_offer (number ∙ ap state_number w.in-BidStands.is) (w.held-is ∙ w.deposit_per_receipt-held.ensures)
+    ]
 
-pub receipt_record-requires-in-2 : goal.receipt_record-requires-in-2
-receipt_record-requires-in-2 c = (c.requires.0.encoded, omega (arith, c.requires.0.high), record_kept _ c.idle_record-in-2.ensures)
-
-pub release_to-requires : goal.release_to-requires
-release_to-requires c =
-    let B = bid (goal.at.release_to-requires c).After-deposit_per_receipt in
-    (B.encoded, B.fits, old_in B, B.funds.frozen_fits)
-
-pub returns-in-1 : goal.returns-in-1
-returns-in-1 c =
-    let B = listed (goal.at.returns-in-1 c).After-receipt_record in
-    let f = c.record_at-f.result in
-    worked c.args.c c.args.n c.args.image.now (ends c.args.c c.args.n c.args.image.now c.requires.1 (read (goal.at.returns-in-1 c).After-record_at-f) 1 c.in-1.is refl)
-    (ended B (λ l. l) (λ l. only_released (hold_from f.buyer (fen 0)) f.seller 0 0 l ∙ release_nothing f.buyer l) B.encoded)
-    c.by_owner-e.ensures
-
-pub returns-in-2 : goal.returns-in-2
-returns-in-2 c =
-    let f = c.record_at-f.result in
-    worked c.args.c c.args.n c.args.image.now (ends c.args.c c.args.n c.args.image.now c.requires.1 (read (goal.at.returns-in-2 c).After-record_at-f) 2 c.in-2.is refl)
-    (ended (bid (goal.at.returns-in-2 c).After-deposit_per_receipt) (release f.buyer c.deposit_per_receipt.result) (only_released (hold_from f.buyer c.deposit_per_receipt.result) f.seller 0 0) c.release_to.ensures)
-    c.by_owner-e.ensures
+begun : (c : After-receipt_record) → c.record_at-f.result ≡ record_of_receipt (decode c.args.image.now) c.args.n → Offer c.record_at-f.result c.match-state.held
+    → Begun c.args.image.now c.receipt_record.new.image (entry_of c.args.n 3 c.record_at-f.result.seller c.record_at-f.result.buyer 0) (with_lot c.record_at-f.result Idle) (hold_from c.record_at-f.result.buyer c.match-state.held) (fen 0) (hold_from 0 (fen 0))
+begun c r o = offer_begun c.args.n c.args.image.now r c.requires (rw c.from-k.ensures at c.receipt_record.ensures) c.idle_record.ensures o
 
 pub returns-in_default : goal.returns-in_default
 returns-in_default c =
-    idle_worked c.args.c c.args.n c.args.image.now c.requires.0.encoded
-    (no_offer c.args.c c.args.n c.args.image.now c.requires.1 (read (goal.at.returns-in_default c).After-record_at-f) (omega arith) (omega arith))
+    λ call kind. idle_worked call c.args.n c.args.image.now c.requires.encoded
+    (no_offer c.args.n c.args.image.now (read (goal.at.returns-in_default c).After-record_at-f) call kind
+    (other_state Listed c.try_from.ensures (c.in_default.not-Ok _)) (other_state BidStands c.try_from.ensures (c.in_default.not-Ok _)))
+
+pub receipt_record-requires : goal.receipt_record-requires
+receipt_record-requires c = (c.requires.encoded, omega (arith, c.requires.high), record_kept _ c.idle_record.ensures)
+
+pub release_to-requires : goal.release_to-requires
+release_to-requires c =
+    let B = begun (goal.at.release_to-requires c).After-receipt_record (read (goal.at.release_to-requires c).After-record_at-f) (offer (goal.at.release_to-requires c).Joined-state) in
+    (B.encoded, B.fits, old_in B, B.funds.frozen_fits)
+
+pub returns : goal.returns
+returns c =
+    let f = c.record_at-f.result in
+    let r = read (goal.at.returns c).After-record_at-f in
+    let o = offer (goal.at.returns c).Joined-state in
+    let B = begun (goal.at.returns c).After-receipt_record r o in
+    λ call kind. worked call c.args.n c.args.image.now (ends c.args.n c.args.image.now r call kind o.state)
+    (ended B (release f.buyer c.match-state.held) (only_released (hold_from f.buyer c.match-state.held) f.seller 0 0) c.release_to.ensures)
+    c.by_owner.ensures
+
+pub returns-in_default-state : goal.returns-in_default-state
+returns-in_default-state c =
+    let d = c.in_default-state in
+    λ call kind. idle_worked call c.args.n c.args.image.now c.requires.encoded
+    (no_offer c.args.n c.args.image.now (read (goal.at.returns-in_default-state c).After-record_at-f) call kind
+    (another_state Listed c.try_from.ensures c.in-Ok.is d.not-Listed) (another_state BidStands c.try_from.ensures c.in-Ok.is d.not-BidStands))

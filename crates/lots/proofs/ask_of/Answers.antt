@@ -1,7 +1,5 @@
 -- Contract 0 has no ask.
-use mathlib.Core.Path.{sym, ap, ◌∙◌}
-use Prim.Native.Nat.{◌-◌}
-use native.Mathlib.Omega.{arith}
+use Rattle.std.proofs.Common.{◌-◌, arith, sym, ap, ◌∙◌}
 use Rattle.image.specs.Image.{decode}
 use Rattle.image.specs.Laws.RoundTrip.{ask_in_place}
 use Rattle.rules.specs.Laws.Tables.{nth_index}
@@ -13,12 +11,9 @@ pub returns-then-n-eq0 : goal.returns-then-n-eq0
 unfolding ask_of nth
 returns-then-n-eq0 c = sym (ap (nth _ (decode c.args.image.now).asks) c.if-n-eq0.true)
 
-pub ask_at-requires : goal.ask_at-requires
-ask_at-requires c = (c.requires.0, omega (arith, c.requires.1))
-
 pub returns : goal.returns
 unfolding ask_of
 returns c =
     let s = c.args.image.now in
     let n = c.args.n in
-    c.ask_at.ensures ∙ ask_in_place s (n - 1) (omega arith) ∙ sym (nth_index _ (decode s).asks n (omega arith))
+    c.ask_at.ensures ∙ rw c.from.ensures (ask_in_place s (n - 1) (omega arith)) ∙ sym (nth_index _ (decode s).asks n (omega arith))

@@ -1,8 +1,5 @@
 -- Who is no account has no money.
-use mathlib.Core.Bool.{false}
-use mathlib.Core.Path.{◌≡◌, sym, ap, ◌∙◌}
-use Prim.Native.Nat.{◌-◌}
-use native.Mathlib.Omega.{arith}
+use Rattle.std.proofs.Common.{false, ◌≡◌, ◌-◌, get_or, arith, sym, ap, ◌∙◌}
 use Rattle.units.specs.Ranges.{is_account, account_count}
 use Rattle.zone.specs.declared.Account.{Account}
 use Rattle.zone.specs.Laws.Tests.{InRange, range_in}
@@ -13,10 +10,6 @@ use Rattle.rules.specs.Laws.Moves.{free_index}
 use Rattle.rules.specs.View.{free_of}
 use Rattle.lots.specs.Laws.Past.{nth_outside}
 use Rattle.lots.proofs.free_of.Goals as goal
-use Rattle.lots.proofs.free_of.Goals.{Else-not-is_account}
-
-inside : (c : Else-not-is_account) → InRange 1 account_count c.args.a
-inside c = range_in (sym c.is_account.ensures ∙ c.if-not-is_account.false)
 
 pub returns-then-not-is_account : goal.returns-then-not-is_account
 unfolding free_of
@@ -25,15 +18,9 @@ returns-then-not-is_account c =
     let out : is_account c.args.a ≡ false = sym c.is_account.ensures ∙ c.if-not-is_account.true in
     sym (ap (λ (v : Account). v.free) (nth_outside empty_account (decode s).accounts c.args.a (rw (decode_sized s).accounts out)))
 
-pub overflow_sub-k : goal.overflow_sub-k
-overflow_sub-k c = (inside (goal.at.overflow_sub-k c).Else-not-is_account).low
-
-pub account_at-v-requires : goal.account_at-v-requires
-account_at-v-requires c = (c.requires, omega (arith, (inside (goal.at.account_at-v-requires c).Else-not-is_account).high, (inside (goal.at.account_at-v-requires c).Else-not-is_account).low))
-
 pub returns : goal.returns
 returns c =
     let s = c.args.image.now in
     let a = c.args.a in
-    let in_table = inside (goal.at.returns c).Else-not-is_account in
-    ap (λ (v : Account). v.free) (c.account_at-v.ensures ∙ account_in_place s (a - 1) (omega arith)) ∙ sym (free_index (decode s).accounts a in_table.low)
+    let in_table : InRange 1 account_count a = range_in (sym c.is_account.ensures ∙ c.if-not-is_account.false) in
+    ap (λ (v : Account). v.free) {x = c.account_at.result} {y = get_or (decode s).accounts (a - 1) empty_account} (c.account_at.ensures ∙ rw c.from.ensures (account_in_place s (a - 1) (omega arith))) ∙ sym (free_index (decode s).accounts a in_table.low)

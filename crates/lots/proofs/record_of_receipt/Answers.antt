@@ -1,7 +1,5 @@
 -- Who is no receipt has the record of none.
-use mathlib.Core.Bool.{false}
-use mathlib.Core.Path.{◌≡◌, sym, ap, ◌∙◌}
-use native.Mathlib.Omega.{arith}
+use Rattle.std.proofs.Common.{false, ◌≡◌, arith, sym, ap, ◌∙◌}
 use Rattle.units.specs.Ranges.{is_receipt, receipt_count}
 use Rattle.zone.specs.Laws.Tests.{InRange, range_in}
 use Rattle.zone.specs.Record.{record_of}
@@ -24,13 +22,10 @@ returns-then-not-is_receipt c =
     let out : is_receipt c.args.n ≡ false = sym c.is_receipt.ensures ∙ c.if-not-is_receipt.true in
     c.record_of.ensures ∙ sym (ap record_of (nth_outside no_receipt (decode s).receipts c.args.n (rw (decode_sized s).receipts out)))
 
-pub overflow_sub-k : goal.overflow_sub-k
-overflow_sub-k c = (inside (goal.at.overflow_sub-k c).Else-not-is_receipt).low
-
 pub record_at-requires : goal.record_at-requires
 record_at-requires c = (same_long _ c.requires.0, omega (arith, inside (goal.at.record_at-requires c).Else-not-is_receipt))
 
 pub returns : goal.returns
 returns c =
     let in_table = inside (goal.at.returns c).Else-not-is_receipt in
-    c.record_at.ensures ∙ record_in_place _ c.requires.0 c.requires.1 c.args.n in_table.low in_table.high
+    c.record_at.ensures ∙ rw c.from.ensures (record_in_place _ c.requires.0 c.requires.1 c.args.n in_table.low in_table.high)

@@ -1,18 +1,23 @@
-use mathlib.Core.Bool.{true}
-use mathlib.Core.Path.{◌≡◌, refl}
-use Prim.Native.Nat.{ℕ}
-use native.Mathlib.Omega.{arith}
-use Rattle.rules.specs.Effects.{sweeps, sweep_kinds}
-use Rattle.rules.specs.Laws.Tables.{among_each}
+-- A call that goes through all lots is a quote, a morning close or a day close.
+use Rattle.rules.specs.declared.Kind.TheVariants.{Quote, MorningClose, DayClose}
+use Rattle.lots.specs.Laws.Over.{swept_kind, read_as, read_otherwise}
 use Rattle.visits.proofs.work_lot.Goals as goal
 
--- neither a quote nor a morning close
-last : (k : ℕ) → sweeps k ≡ true → (k ≡ 9 → ⊥) → (k ≡ 11 → ⊥) → k ≡ 15
-last k s a b = among_each (λ (j : ℕ). (j ≡ 9 → ⊥) → (j ≡ 11 → ⊥) → j ≡ 15) k sweep_kinds ((λ a b. absurd (a refl)), ((λ a b. absurd (b refl)), ((λ a b. refl), tt))) s a b
+pub unreachable-requires : goal.unreachable-requires
+unreachable-requires c =
+    swept_kind c.args.c.kind c.requires.1 c.try_from.ensures (c.in_default.not-Ok _) (c.in_default.not-Ok _) (c.in_default.not-Ok _)
 
-pub close_lot-requires : goal.close_lot-requires
-close_lot-requires c = (record { encoded = c.requires.0; valid = c.requires.1; low = omega (arith, c.requires.3); high = omega (arith, c.requires.4) }, c.in-11.is)
+pub strike_lot-requires : goal.strike_lot-requires
+strike_lot-requires c = (c.requires.0, read_as c.try_from.ensures c.in-Ok.is c.in-Quote.is)
 
-pub end_offer-requires : goal.end_offer-requires
-end_offer-requires c =
-    (record { encoded = c.requires.0; valid = c.requires.1; low = omega (arith, c.requires.3); high = omega (arith, c.requires.4) }, last c.args.c.kind c.requires.2 (omega arith) (omega arith))
+pub returns-in-MorningClose : goal.returns-in-MorningClose
+returns-in-MorningClose c = c.close_lot.ensures c.args.c (read_as c.try_from.ensures c.in-Ok.is c.in-MorningClose.is)
+
+pub returns-in-DayClose : goal.returns-in-DayClose
+returns-in-DayClose c = c.end_offer.ensures c.args.c (read_as c.try_from.ensures c.in-Ok.is c.in-DayClose.is)
+
+pub unreachable-requires-in_default-kind : goal.unreachable-requires-in_default-kind
+unreachable-requires-in_default-kind c =
+    let d = c.in_default-kind in
+    let is = c.in-Ok.is in
+    swept_kind c.args.c.kind c.requires.1 c.try_from.ensures (read_otherwise Quote is d.not-Quote) (read_otherwise MorningClose is d.not-MorningClose) (read_otherwise DayClose is d.not-DayClose)

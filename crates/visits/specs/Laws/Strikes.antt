@@ -15,7 +15,7 @@ use Rattle.zone.specs.Laws.Tests.{both}
 use Rattle.zone.specs.Parts.{with_receipts}
 use Rattle.zone.specs.Record.{record_of, bid_of}
 use Rattle.rules.specs.AtLot.{one_event}
-use Rattle.std.specs.Prelude.{Option, Some, None}
+use Rattle.std.specs.Prelude.{None}
 use Rattle.rules.specs.declared.Call.{Call}
 use Rattle.rules.specs.declared.Entry.{Entry}
 use Rattle.rules.specs.declared.View.{View}
