@@ -1,1 +1,2 @@
 pub mod SignedSums
+pub mod Shares

@@ -2,7 +2,7 @@
 #![tactic(auto)]
 
 ghost use Rattle.std.specs.Prelude.{◌≡◌, ◌+◌, ◌-◌, ◌≤◌, ◌<◌, ◌^◌, eqb};
-ghost use Rattle.units.specs.Ranges.{is_zero, is_account, is_receipt, is_contract, is_days, is_price, is_ask, most_weight, is_basis, is_premium, is_weight, is_amount};
+ghost use Rattle.units.specs.Ranges.{within, is_zero, is_account, is_receipt, is_contract, is_days, is_price, is_ask, most_weight, is_basis, is_premium, is_weight, is_amount};
 ghost use Rattle.units.specs.Payments.{fen, unit_price, at_least_0, payable, full_payment, first_payment, rest_payment, paid_so_far, part_payment, deposit, penalty_passed};
 
 use std::ops::{Add, Sub};
@@ -73,25 +73,32 @@ pub const PER_RECEIPT: u64 = 5000000;
 pub fn is_zero(x: i32) -> bool
     ensures { result ≡ is_zero x }
 {
-    (0 <= x) & (x <= 0)
+    x == 0
+}
+
+// Accounts, receipts and contracts have numbers from 1 on.
+fn counts_to(last: usize, n: u8) -> bool
+    ensures { result ≡ within 1 last n }
+{
+    (1..=last).contains(&usize::from(n))
 }
 
 pub fn is_account(n: u8) -> bool
     ensures { result ≡ is_account n }
 {
-    (1 <= n) & (n <= ACCOUNTS as u8)
+    counts_to(ACCOUNTS, n)
 }
 
 pub fn is_receipt(n: u8) -> bool
     ensures { result ≡ is_receipt n }
 {
-    (1 <= n) & (n <= RECEIPTS as u8)
+    counts_to(RECEIPTS, n)
 }
 
 pub fn is_contract(n: u8) -> bool
     ensures { result ≡ is_contract n }
 {
-    (1 <= n) & (n <= CONTRACTS as u8)
+    counts_to(CONTRACTS, n)
 }
 
 pub fn is_days(n: u8) -> bool
@@ -104,7 +111,7 @@ pub fn is_days(n: u8) -> bool
 pub fn is_price(x: u64) -> bool
     ensures { result ≡ is_price x }
 {
-    (5 <= x) & (x <= 200000) & (x % 5 == 0)
+    (5..=200000).contains(&x) & (x % 5 == 0)
 }
 
 // None, or a price.
@@ -114,64 +121,68 @@ pub fn is_ask(x: u64) -> bool
     (x == 0) | is_price(x)
 }
 
+// A basis and a premium differ in a limit alone: one function of it would be as long as both.
 pub fn is_basis(x: i32) -> bool
     ensures { result ≡ is_basis x }
 {
-    (-50000 <= x) & (x <= 50000)
+    (-50000..=50000).contains(&x)
 }
 
 pub fn is_premium(x: i32) -> bool
     ensures { result ≡ is_premium x }
 {
-    (-5000 <= x) & (x <= 5000)
+    (-5000..=5000).contains(&x)
 }
 
 pub fn is_weight(x: u32) -> bool
     ensures { result ≡ is_weight x }
 {
-    (1000 <= x) & (x <= 60000)
+    (1000..=60000).contains(&x)
 }
 
 pub fn is_amount(x: u64) -> bool
     ensures { result ≡ is_amount x }
 {
-    (1 <= x) & (x <= 1000000000000)
+    (1..=1000000000000).contains(&x)
 }
 
 // ── The money of a trade ────────────────────────────────────────────────────────────────────────
 
+// Price, basis and premium stay three parameters: `unit_price`, `payable` and `full_payment` of specs/ are functions of three.
+
 // price + basis + premium: at 64 bits the sum never wraps.
+#[tactic(auto, unfolding(crate::specs::Payments::unit_price))]
 fn unit_price(price: YuanPerTonne, basis: Basis, premium: Premium) -> i64
     ensures { result ≡ unit_price price basis premium }
 {
-    (price.0 as i64) + (basis.0 as i64) + (premium.0 as i64)
+    i64::from(price.0) + i64::from(basis.0) + i64::from(premium.0)
 }
 
-// The sum as an unsigned number. No valid trade has a sum below 0; the test stands so that the cast loses nothing for any fields.
+// The sum as an unsigned number. No valid trade has a sum below 0; one of other fields counts as 0.
+#[tactic(auto, using(crate::proofs::SignedSums::natural, crate::proofs::SignedSums::unit_small))]
 fn price_to_pay(price: YuanPerTonne, basis: Basis, premium: Premium) -> u64
     ensures { (result ≡ at_least_0 (unit_price price basis premium)) × (result < 2 ^ 33) }
 {
-    let unit = unit_price(price, basis, premium);
-    if unit < 0 {
-        return 0;
-    }
-    unit as u64
+    unit_price(price, basis, premium).max(0).cast_unsigned()
 }
 
 // Whether a trade at this price has anything to pay: the sum is at least 1.
+#[tactic(auto, unfolding(crate::specs::Payments::payable))]
 pub fn is_payable(price: YuanPerTonne, basis: Basis, premium: Premium) -> bool
     ensures { result ≡ payable price basis premium }
 {
     1 <= unit_price(price, basis, premium)
 }
 
+#[tactic(auto, unfolding(crate::specs::Payments::full_payment))]
 pub fn full_payment(price: YuanPerTonne, basis: Basis, premium: Premium, weight: Kilograms) -> Fen
     requires { weight.0 ≤ most_weight }
     ensures { result ≡ full_payment price basis premium weight }
 {
-    Fen((price_to_pay(price, basis, premium) * (weight.0 as u64) + 5) / 10)
+    Fen((price_to_pay(price, basis, premium) * u64::from(weight.0) + 5) / 10)
 }
 
+#[tactic(auto, unfolding(crate::specs::Payments::first_payment))]
 pub fn first_payment(full: Fen) -> Fen
     requires { full.0 < 2 ^ 32 }
     ensures { result ≡ first_payment full }
@@ -179,54 +190,45 @@ pub fn first_payment(full: Fen) -> Fen
     Fen(full.0 * 80 / 100)
 }
 
+#[tactic(auto, using(crate::specs::Laws::Bounds::first_le), unfolding(crate::specs::Payments::rest_payment))]
 pub fn rest_payment(full: Fen) -> Fen
     requires { full.0 < 2 ^ 32 }
     ensures { result ≡ rest_payment full }
 {
-    let first = first_payment(full).0;
-    let rest = full.0 - first;
-    Fen(rest)
+    full - first_payment(full)
 }
 
 // Of the rest, what invoices confirmed up to this sum have been paid together.
+#[tactic(auto, using(crate::specs::Laws::Bounds::rest_le), unfolding(crate::specs::Payments::paid_so_far))]
 pub fn paid_so_far(full: Fen, confirmed: Fen) -> Fen
     requires { (full.0 < 2 ^ 32) × (0 < full.0) × (confirmed.0 ≤ full.0) }
     ensures { result ≡ paid_so_far full confirmed }
 {
-    let rest = rest_payment(full).0;
-    let all = full.0;
-    let sum = confirmed.0;
-    let product = rest * sum;
-    Fen(product / all)
+    Fen(rest_payment(full).0 * confirmed.0 / full.0)
 }
 
 // Whether `paid` is what invoices confirmed up to this sum have been paid. Products are compared, because they cost less than a division.
+#[tactic(auto, using(crate::specs::Laws::Bounds::rest_le, crate::proofs::Shares::product_fits, crate::proofs::Shares::above_rest, crate::proofs::Shares::by_products), unfolding(crate::specs::Payments::paid_so_far))]
 pub fn is_paid_so_far(full: Fen, confirmed: Fen, paid: Fen) -> bool
     requires { (full.0 < 2 ^ 32) × (confirmed.0 < full.0) }
     ensures { result ≡ eqb paid.0 (paid_so_far full confirmed).0 }
 {
-    let rest = rest_payment(full).0;
-    let all = full.0;
-    let sum = confirmed.0;
-    let so_far = paid.0;
-    if rest < so_far {
+    let rest = rest_payment(full);
+    if rest < paid {
         return false;
     }
-    let product = rest * sum;
-    let lower = so_far * all;
-    (lower <= product) & (product < lower + all)
+    let product = rest.0 * confirmed.0;
+    let lower = paid.0 * full.0;
+    (lower..lower + full.0).contains(&product)
 }
 
 // What the confirmation of an invoice pays, where `confirmed` and `paid` stand before it.
+#[tactic(auto, using(crate::specs::Laws::Bounds::so_far_up), unfolding(crate::specs::Payments::part_payment))]
 pub fn part_payment(full: Fen, confirmed: Fen, paid: Fen, invoice: Fen) -> Fen
     requires { (full.0 < 2 ^ 32) × (0 < invoice.0) × (confirmed.0 + invoice.0 ≤ full.0) × (paid.0 ≡ (paid_so_far full confirmed).0) }
     ensures { result ≡ part_payment full confirmed paid invoice }
 {
-    let before = confirmed.0;
-    let new = invoice.0;
-    let so_far = paid.0;
-    let after = paid_so_far(full, Fen(before + new)).0;
-    Fen(after - so_far)
+    paid_so_far(full, confirmed + invoice) - paid
 }
 
 // Frozen from the buyer for each receipt bid on.
@@ -237,9 +239,9 @@ pub fn deposit_per_receipt() -> Fen
 }
 
 // Of the penalty a seller owes, what its free money can pay.
+#[tactic(auto, unfolding(crate::specs::Payments::penalty_passed))]
 pub fn penalty_passed(free: Fen) -> Fen
     ensures { result ≡ penalty_passed free }
 {
-    let owed = PER_RECEIPT;
-    if free.0 < owed { free } else { Fen(owed) }
+    free.min(Fen(PER_RECEIPT))
 }
