@@ -1,4 +1,5 @@
 // The four moves of money, in the accounts of an image. Account 0 is nobody, and moves of nobody's money move none.
+// That it is an image stands in each contract: the bytes are the host's (C interface), so that no type of ours holds them.
 ghost use Rattle.std.specs.Prelude.{◌≡◌, ◌≤◌, ◌<◌};
 ghost use Rattle.units.specs.Ranges.{account_count, money_limit};
 ghost use Rattle.zone.specs.Parts.{with_accounts};

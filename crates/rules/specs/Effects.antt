@@ -1,7 +1,7 @@
 -- What an accepted call does (01 Calls 4 to 26): an opening, a rule at its lots, an ending, and its entries in the order of the answer. The
 -- articles are those of the guideline, source document 002.
 -- Assumes nothing.
-use Rattle.std.specs.Prelude.{Bool, true, false, not, cond, ◌&&◌, List, [], ◌∷◌, ℕ, ◌+◌, ◌-◌, eqb, leb}
+use Rattle.std.specs.Prelude.{Bool, true, false, not, cond, ◌&&◌, List, [], ◌∷◌, ℕ, ◌+◌, ◌-◌, eqb, leb, None}
 use Rattle.units.specs.declared.Fen.{Fen}
 use Rattle.units.specs.declared.YuanPerTonne.{YuanPerTonne}
 use Rattle.units.specs.Payments.{fen, deposit, first_payment, part_payment, penalty_passed}
@@ -17,9 +17,7 @@ use Rattle.zone.specs.Held.{full}
 use Rattle.zone.specs.Parts.{with_accounts, with_asks, with_clock, with_total}
 use Rattle.zone.specs.Record.{listing_of, bid_of, trade_of, no_invoices}
 use Rattle.zone.specs.Valid.{no_asks}
-use Rattle.rules.specs.AtLot.{AtLot}
-use Rattle.rules.specs.AtLot.{one_event}
-use Rattle.std.specs.Prelude.{None}
+use Rattle.rules.specs.AtLot.{AtLot, one_event}
 use Rattle.rules.specs.declared.Call.{Call}
 use Rattle.rules.specs.declared.Entry.{Entry}
 use Rattle.rules.specs.declared.View.{View}

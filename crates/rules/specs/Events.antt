@@ -1,6 +1,6 @@
 -- An event at a lot is an entry and the receipt as it is after; the money follows from it. A sweep visits lots in ascending order.
 -- Assumes nothing.
-use Rattle.std.specs.Prelude.{cond, List, [], ◌∷◌, ◌++◌, ℕ, zero, suc, ◌+◌, ◌-◌}
+use Rattle.std.specs.Prelude.{cond, List, [], ◌∷◌, ◌++◌, ℕ, zero, suc, ◌+◌, ◌-◌, Some, None}
 use Rattle.units.specs.declared.Fen.{Fen}
 use Rattle.units.specs.Payments.{fen}
 use Rattle.zone.specs.declared.Account.{Account}
@@ -11,7 +11,6 @@ use Rattle.zone.specs.declared.Zone.{Zone}
 use Rattle.zone.specs.Held.{hold_of}
 use Rattle.zone.specs.Record.{record_of}
 use Rattle.rules.specs.AtLot.{AtLot}
-use Rattle.std.specs.Prelude.{Some, None}
 use Rattle.rules.specs.declared.Entry.{Entry}
 use Rattle.rules.specs.Tables.{among, put}
 use Rattle.rules.specs.View.{free_of, frozen_of, record_of_receipt}

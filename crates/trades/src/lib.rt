@@ -21,7 +21,7 @@ pub fn lodge_at(n: u8, f: Record) -> Event
 
 // ── Payments and invoices ───────────────────────────────────────────────────────────────────────
 
-#[tactic(auto, unfolding(rules::specs::Effects::pay_first))]
+#[tactic(auto, using(crate::proofs::Fits::valid_weight, crate::proofs::Fits::full_fits, crate::proofs::Fits::first_fits), unfolding(rules::specs::Effects::pay_first))]
 pub fn pay_first(n: u8, f: Record) -> Event
     requires { record_valid f ≡ true }
     ensures { Some result ≡ pay_first n f }
@@ -67,7 +67,7 @@ fn confirmed_lot(f: Record, full: Fen, part: Fen) -> Lot
     Lot::FirstPaid(zone::trade_of(f), invoices)
 }
 
-#[tactic(auto, unfolding(rules::specs::Effects::confirm))]
+#[tactic(auto, using(crate::proofs::Fits::valid_weight))]
 pub fn confirm_at(n: u8, f: Record) -> Event
     requires { (record_valid f ≡ true) × (f.state ≡ 6) × (0 < f.pending.0) }
     ensures { Some result ≡ confirm n f }

@@ -8,11 +8,10 @@ use Rattle.zone.specs.Record.{record_of}
 use Rattle.image.specs.Image.{decode, encode}
 use Rattle.image.specs.Laws.RoundTrip.{same_long}
 use Rattle.rules.specs.Events.{money_moved, accounts_after, posted}
-use Rattle.rules.specs.Ready.{Funds}
 use Rattle.rules.specs.View.{record_of_receipt}
 use Rattle.events.specs.Laws.Moved.{ReceiptPut, record_put, record_kept, encoded, record_valid_lem, record_in_place}
 use Rattle.events.proofs.post.Goals as goal
-use Rattle.events.proofs.post.Goals.{After-record_at, After-hold_of-old, After-hold_of-new, After-receipt_record, After-money_of}
+use Rattle.events.proofs.post.Goals.{After-record_at, After-hold_of-old, After-hold_of-new, After-receipt_record}
 
 -- the record that was read is the lot's
 read : (c : After-record_at) → c.record_at.result ≡ record_of_receipt (decode c.args.image.now) c.args.event.entry.lot
@@ -29,11 +28,6 @@ holds c = c.hold_of-new.ensures ∙ ap hold_of c.record_of-after.ensures
 receipt_changed : (c : After-receipt_record) → ReceiptPut c.args.image.now c.receipt_record.new.image c.args.event.entry.lot c.args.event.receipt
 receipt_changed c = record_put c.requires.1.fits c.requires.1.valid c.requires.1.low c.record_of-after.ensures (rw c.from-k.ensures at c.receipt_record.ensures)
 
--- the moves find their money
-funds : (c : After-money_of) →
-    Funds (decode c.receipt_record.new.image).accounts c.hold_of-old.result c.args.event.entry.from c.args.event.entry.to c.money_of.result c.hold_of-new.result
-funds c = rw ((receipt_changed c.before.before.before.before).zone, c.money_of.ensures, holds c.before.before.before.before.before.before, held c.before.before.before.before.before.before.before.before.before) c.requires.1.funded
-
 pub record_at-requires : goal.record_at-requires
 record_at-requires c = (same_long _ c.requires.0, omega (arith, c.requires.1.high))
 
@@ -48,8 +42,12 @@ receipt_record-requires c = (c.requires.0, omega (arith, c.requires.1.high), rec
 
 pub move_money-requires : goal.move_money-requires
 move_money-requires c =
-    let C = receipt_changed (goal.at.move_money-requires c).After-receipt_record in
-    (encoded _ _ C.is C.zone, rw C.zone C.fits, funds (goal.at.move_money-requires c).After-money_of)
+    let at = goal.at.move_money-requires c in
+    let C = receipt_changed at.After-receipt_record in (
+      encoded _ _ C.is C.zone,
+      rw C.zone C.fits,
+      rw (C.zone, c.money_of.ensures, holds at.After-hold_of-new, held at.After-hold_of-old) c.requires.1.funded,
+    )
 
 pub returns : goal.returns
 unfolding posted accounts_after

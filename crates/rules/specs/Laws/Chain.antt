@@ -1,6 +1,6 @@
 -- Every accepted call is an opening, events at ascending lots, an ending: the walk over kinds and lots, once for all claims.
 -- Assumes nothing.
-use Rattle.std.specs.Prelude.{Bool, true, false, cond, List, [], ◌∷◌, ◌++◌, ◌≡◌, refl, ℕ, zero, suc, ◌+◌, ◌≤◌, ◌<◌}
+use Rattle.std.specs.Prelude.{Bool, true, false, cond, List, [], ◌∷◌, ◌++◌, ◌≡◌, refl, ℕ, zero, suc, ◌+◌, ◌≤◌, ◌<◌, Some, None}
 use Rattle.std.proofs.Common.{true≢false, sym, ◌∙◌, subst, arith}
 use Rattle.units.specs.Ranges.{receipt_count, is_receipt}
 use Rattle.zone.specs.declared.Receipt.{Receipt}
@@ -8,9 +8,7 @@ use Rattle.zone.specs.declared.Zone.{Zone}
 use Rattle.zone.specs.Laws.Tests.{InRange, range_in}
 use Rattle.rules.specs.declared.Call.{Call}
 use Rattle.rules.specs.declared.Entry.{Entry}
-use Rattle.rules.specs.AtLot.{AtLot}
-use Rattle.rules.specs.AtLot.{one_event}
-use Rattle.std.specs.Prelude.{Some, None}
+use Rattle.rules.specs.AtLot.{AtLot, one_event}
 use Rattle.rules.specs.Effects.{rule_at, opening, sweeps, first_lot, lot_count, ending, at_lots, effect}
 use Rattle.rules.specs.Events.{posted, after_lot, sweep}
 use Rattle.rules.specs.Laws.Kinds.{with_kind, ByKind, by_kind}

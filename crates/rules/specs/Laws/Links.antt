@@ -1,7 +1,7 @@
 -- Every event of an accepted call on a good zone fits, and leaves a good zone: one walk that tells all that is known at each link.
 -- Assumes nothing.
 use Rattle.std.proofs.Math.Bool.{true}
-use Rattle.std.specs.Prelude.{false, List, [], ◌∷◌, ◌≢◌, ◌≡◌, ℕ, suc, ◌≤◌, ◌<◌}
+use Rattle.std.specs.Prelude.{false, List, [], ◌∷◌, ◌≢◌, ◌≡◌, ℕ, suc, ◌≤◌, ◌<◌, Some, None}
 use Rattle.std.proofs.Common.{true≢false, sym, ◌∙◌, subst}
 use Rattle.std.proofs.Math.Path.{refl}
 use Rattle.units.specs.Ranges.{within, receipt_count, last_day}
@@ -13,9 +13,7 @@ use Rattle.zone.specs.Record.{record_of}
 use Rattle.zone.specs.Valid.{Sized, record_valid, no_receipt}
 use Rattle.rules.specs.declared.Call.{Call}
 use Rattle.rules.specs.declared.Entry.{Entry}
-use Rattle.rules.specs.AtLot.{AtLot}
-use Rattle.rules.specs.AtLot.{one_event}
-use Rattle.std.specs.Prelude.{Some, None}
+use Rattle.rules.specs.AtLot.{AtLot, one_event}
 use Rattle.rules.specs.Effects.{rule_of, rule_at, sweeps, no_rule, sweep_kinds}
 use Rattle.rules.specs.Events.{posted, after_lot}
 use Rattle.rules.specs.Laws.Chain.{none, on_event, Visit, swept, named, Chain, stop, link}

@@ -6,11 +6,10 @@ use Rattle.zone.specs.declared.Record.{Record}
 use Rattle.zone.specs.declared.Zone.{Zone}
 use Rattle.rules.specs.AtLot.{AtLot}
 use Rattle.rules.specs.declared.Call.{Call}
-use Rattle.rules.specs.Steps.{Refused, Accepted}
+use Rattle.rules.specs.Steps.{Refused, Accepted, step_at, step_on, step_number, number_on}
 use Rattle.rules.specs.declared.View.{View}
 use Rattle.rules.specs.Effects.{rule_of, rule_at}
 use Rattle.rules.specs.Numbers.{first_number}
-use Rattle.rules.specs.Steps.{step_at, step_on, step_number, number_on}
 use Rattle.rules.specs.View.{view_of, record_of_receipt}
 
 pub step_number_lem : (v : View) (c : Call) (f : Record) → step_number (step_at v c f) ≡ first_number v c f

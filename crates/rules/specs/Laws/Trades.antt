@@ -1,7 +1,7 @@
 -- What the rules of a trade keep: lodging, the morning close, the payments. Kinds 10 to 14.
 -- Assumes nothing.
 use Rattle.std.proofs.Math.Bool.{Bool, true, false}
-use Rattle.std.specs.Prelude.{cond, [], ◌∷◌, ◌≡◌, ℕ, ◌+◌, ◌≤◌, ◌<◌, eqb, leb}
+use Rattle.std.specs.Prelude.{cond, [], ◌∷◌, ◌≡◌, ℕ, ◌+◌, ◌≤◌, ◌<◌, eqb, leb, None}
 use Rattle.std.proofs.Math.Path.{refl}
 use native.Mathlib.Omega.{arith}
 use borrow.Author.Tests.{ltb-false, leb-true, eqb-false}
@@ -20,9 +20,7 @@ use Rattle.zone.specs.Laws.Tests.{both, InRange}
 use Rattle.zone.specs.Record.{record_of, trade_of}
 use Rattle.zone.specs.Valid.{record_valid}
 use Rattle.rules.specs.declared.Call.{Call}
-use Rattle.rules.specs.AtLot.{AtLot}
-use Rattle.rules.specs.AtLot.{one_event}
-use Rattle.std.specs.Prelude.{None}
+use Rattle.rules.specs.AtLot.{AtLot, one_event}
 use Rattle.rules.specs.declared.View.{View}
 use Rattle.rules.specs.Effects.{with_lot, event_of, entry_of, has_money, lodge, close_lot, pay_first, send_invoice, confirm, owned_by}
 use Rattle.rules.specs.Events.{money_of}

@@ -1,9 +1,10 @@
 -- A valid record in state 6 gives what `part_payment` asks and that the sums fit.
+-- `returns` is written out for the edits that bring a `part_payment` of their own: they are refused there, and not here too.
 use mathlib.Core.Path.{◌≡◌}
 use native.Mathlib.Omega.{arith}
 use Rattle.units.specs.Payments.{part_payment}
 use Rattle.zone.specs.Held.{full}
-use Rattle.zone.specs.Laws.Facts.{bounds}
+use Rattle.rules.specs.Effects.{confirm}
 use Rattle.rules.specs.Laws.Receipts.{PartPaid, part_paid}
 use Rattle.trades.proofs.confirm_at.Goals as goal
 use Rattle.trades.proofs.confirm_at.Goals.{Start, After-part_payment-part}
@@ -18,9 +19,6 @@ part_here : (c : After-part_payment-part) →
     c.part_payment-part.result.0 ≡ (part_payment (full f) f.confirmed f.paid f.pending).0
 part_here c = rw (c.part_payment-part.ensures, c.full_of-full.ensures)
 
-pub full_of-full-requires : goal.full_of-full-requires
-full_of-full-requires c = (bounds c.args.f c.requires.0).weight
-
 pub part_payment-part-requires : goal.part_payment-part-requires
 part_payment-part-requires c =
     let i = here c.before.before.before.before in
@@ -34,3 +32,7 @@ confirmed_lot-requires c =
     let i = here c.before.before.before.before.before.before.before in
     let p = part_here c.before.before in
     (omega (arith, i), omega (arith, i, p))
+
+pub returns : goal.returns
+unfolding confirm
+returns c = rw (c.with_lot.ensures, c.by_buyer.ensures, c.confirmed_lot.ensures, c.part_payment-part.ensures, c.full_of-full.ensures)
