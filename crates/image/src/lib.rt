@@ -1,9 +1,10 @@
 // An image of bytes as a zone: where each part stands, and each part read there.
 #![tactic(auto)]
 
-ghost use Rattle.std.specs.Prelude.{◌≡◌, ◌<◌, length};
+ghost use Rattle.std.specs.Prelude.{◌≡◌, ◌+◌, ◌*◌, ◌≤◌, ◌<◌, length};
 ghost use Rattle.units.specs.Payments.{fen};
 ghost use Rattle.units.specs.Ranges.{account_count, receipt_count, contract_count};
+ghost use Rattle.image.specs.Table.{run_at};
 ghost use Rattle.image.specs.Layout.{account_length, receipt_length, image_length, account_run, ask_run, receipt_run, day_in, afternoon_in, phase_byte, total_in, account_in, ask_in, record_in};
 
 use units::{ACCOUNTS, Basis, CONTRACTS, Fen, Kilograms, Premium, RECEIPTS, YuanPerTonne};
@@ -90,12 +91,9 @@ pub const HEADER_CONTRACT_START: u32 = CONTRACT_START as u32;
 
 pub const HEADER_RECEIPT_START: u32 = RECEIPT_START as u32;
 
-// State and contract of the first receipt.
-const FIRST_STATE: usize = RECEIPT_START + STATE_PLACE;
-
-const FIRST_CONTRACT: usize = RECEIPT_START + CONTRACT_PLACE;
-
 // ── A part, read where it stands ────────────────────────────────────────────────────────────────
+
+// An image stays a slice whose length each of these requires: the entries take slices from C, whose length `verdict::image_ok` tests once.
 
 pub fn day_in(image: &[u8]) -> u16
     requires { length image.now ≡ image_length }
@@ -118,6 +116,17 @@ pub fn total_in(image: &[u8]) -> Fen
     Fen(wire::get_u64(image, TOTAL_PLACE))
 }
 
+// Row k of a table: `size` bytes of each, the first at `start`.
+fn row(image: &[u8], start: usize, size: usize, k: usize) -> &[u8]
+    requires { start + (k + 1) * size ≤ length image.now }
+    ensures bytes { result.now ≡ run_at start size image.now k }
+    ensures size { length result.now ≡ size }
+{
+    let at = start + k * size;
+    &image[at..at + size]
+}
+
+#[tactic(auto, unfolding(crate::specs::Layout::account_in))]
 fn account_in(s: &[u8]) -> Account
     requires { length s.now ≡ account_length }
     ensures { result ≡ account_in s.now }
@@ -132,30 +141,22 @@ pub fn account_at(image: &[u8], k: usize) -> Account
     requires { (length image.now ≡ image_length) × (k < account_count) }
     ensures { result ≡ account_in (account_run image.now k) }
 {
-    let at = ACCOUNT_START + k * ACCOUNT_LENGTH;
-    let end = at + ACCOUNT_LENGTH;
-    account_in(&image[at..end])
+    account_in(row(image, ACCOUNT_START, ACCOUNT_LENGTH, k))
 }
 
+#[tactic(auto, unfolding(crate::specs::Layout::ask_in))]
 pub fn ask_at(image: &[u8], k: usize) -> YuanPerTonne
     requires { (length image.now ≡ image_length) × (k < contract_count) }
     ensures { result ≡ ask_in (ask_run image.now k) }
 {
-    YuanPerTonne(wire::get_u32(image, CONTRACT_START + k * ASK_LENGTH))
+    YuanPerTonne(wire::get_u32(row(image, CONTRACT_START, ASK_LENGTH, k), 0))
 }
 
+#[tactic(auto, unfolding(crate::specs::Layout::record_in))]
 fn record_in(s: &[u8]) -> Record
     requires { length s.now ≡ receipt_length }
     ensures { result ≡ record_in s.now }
 {
-    let due = wire::get_u16(s, DUE_PLACE);
-    let weight = wire::get_u32(s, WEIGHT_PLACE);
-    let basis = wire::get_i32(s, BASIS_PLACE);
-    let price = wire::get_u32(s, PRICE_PLACE);
-    let pending = wire::get_u32(s, PENDING_PLACE) as u64;
-    let confirmed = wire::get_u32(s, CONFIRMED_PLACE) as u64;
-    let paid = wire::get_u32(s, PAID_PLACE) as u64;
-    let premium = wire::get_i32(s, PREMIUM_PLACE);
     Record {
         owner: s[OWNER_PLACE],
         state: s[STATE_PLACE],
@@ -163,14 +164,14 @@ fn record_in(s: &[u8]) -> Record
         buyer: s[BUYER_PLACE],
         contract: s[CONTRACT_PLACE],
         days: s[DAYS_PLACE],
-        due: due,
-        weight: Kilograms(weight),
-        basis: Basis(basis),
-        price: YuanPerTonne(price),
-        pending: Fen(pending),
-        confirmed: Fen(confirmed),
-        paid: Fen(paid),
-        premium: Premium(premium),
+        due: wire::get_u16(s, DUE_PLACE),
+        weight: Kilograms(wire::get_u32(s, WEIGHT_PLACE)),
+        basis: Basis(wire::get_i32(s, BASIS_PLACE)),
+        price: YuanPerTonne(wire::get_u32(s, PRICE_PLACE)),
+        pending: Fen(u64::from(wire::get_u32(s, PENDING_PLACE))),
+        confirmed: Fen(u64::from(wire::get_u32(s, CONFIRMED_PLACE))),
+        paid: Fen(u64::from(wire::get_u32(s, PAID_PLACE))),
+        premium: Premium(wire::get_i32(s, PREMIUM_PLACE)),
     }
 }
 
@@ -178,29 +179,29 @@ pub fn record_at(image: &[u8], k: usize) -> Record
     requires { (length image.now ≡ image_length) × (k < receipt_count) }
     ensures { result ≡ record_in (receipt_run image.now k) }
 {
-    let at = RECEIPT_START + k * RECEIPT_LENGTH;
-    let end = at + RECEIPT_LENGTH;
-    record_in(&image[at..end])
+    record_in(row(image, RECEIPT_START, RECEIPT_LENGTH, k))
 }
 
 // A lot's state and contract, without the rest of its record.
+#[tactic(auto, unfolding(crate::specs::Layout::record_in))]
 pub fn state_at(image: &[u8], k: usize) -> u8
     requires { (length image.now ≡ image_length) × (k < receipt_count) }
     ensures { result ≡ (record_in (receipt_run image.now k)).state }
 {
-    image[FIRST_STATE + k * RECEIPT_LENGTH]
+    row(image, RECEIPT_START, RECEIPT_LENGTH, k)[STATE_PLACE]
 }
 
+#[tactic(auto, unfolding(crate::specs::Layout::record_in))]
 pub fn contract_at(image: &[u8], k: usize) -> u8
     requires { (length image.now ≡ image_length) × (k < receipt_count) }
     ensures { result ≡ (record_in (receipt_run image.now k)).contract }
 {
-    image[FIRST_CONTRACT + k * RECEIPT_LENGTH]
+    row(image, RECEIPT_START, RECEIPT_LENGTH, k)[CONTRACT_PLACE]
 }
 
 // The byte of a phase.
 pub fn phase(afternoon: bool) -> u8
     ensures { result ≡ phase_byte afternoon }
 {
-    if afternoon { 1 } else { 0 }
+    u8::from(afternoon)
 }

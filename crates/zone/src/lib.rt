@@ -2,7 +2,7 @@
 #![tactic(auto)]
 
 ghost use Rattle.std.specs.Prelude.{◌≡◌};
-ghost use Rattle.zone.specs.State.{state_of};
+ghost use Rattle.zone.specs.State.{state_number, state_of};
 ghost use Rattle.zone.specs.Record.{record_of, flat_record, no_listing, no_bid, no_invoices, listing_of, bid_of, trade_of};
 
 use units::{ACCOUNTS, Basis, CONTRACTS, Fen, Kilograms, Premium, RECEIPTS, YuanPerTonne};
@@ -31,6 +31,7 @@ impl TryFrom<u8> for State {
 
     ghost try_from_gives = { λ n r. r ≡ state_of n };
 
+    #[tactic(auto, unfolding(crate::specs::State::state_of))]
     fn try_from(number: u8) -> Result<State, UnknownState> {
         match number {
             0 => Ok(State::Idle),
@@ -147,7 +148,7 @@ fn no_listing(seller: u8) -> Listing
     ensures { result ≡ no_listing seller }
 {
     Listing {
-        seller: seller,
+        seller,
         contract: 0,
         days: 0,
         basis: Basis(0),
@@ -158,7 +159,7 @@ fn no_bid(buyer: u8) -> Bid
     ensures { result ≡ no_bid buyer }
 {
     Bid {
-        buyer: buyer,
+        buyer,
         price: YuanPerTonne(0),
     }
 }
@@ -173,170 +174,97 @@ pub fn no_invoices() -> Invoices
     }
 }
 
-fn flat_record(
-    owner: u8,
-    weight: Kilograms,
-    premium: Premium,
-    state: u8,
-    l: Listing,
-    b: Bid,
-    due: u16,
-    i: Invoices,
-) -> Record
-    ensures { result ≡ flat_record owner weight premium state l b due i }
+fn flat_record(r: Receipt, state: State, l: Listing, b: Bid, due: u16, i: Invoices) -> Record
+    ensures { result ≡ flat_record r.owner r.weight r.premium (state_number state) l b due i }
 {
-    let basis = l.basis;
-    let price = b.price;
-    let pending = i.pending;
-    let confirmed = i.confirmed;
-    let paid = i.paid;
     Record {
-        owner: owner,
-        state: state,
+        owner: r.owner,
+        state: state as u8,
         seller: l.seller,
         buyer: b.buyer,
         contract: l.contract,
         days: l.days,
-        due: due,
-        weight: weight,
-        basis: basis,
-        price: price,
-        pending: pending,
-        confirmed: confirmed,
-        paid: paid,
-        premium: premium,
+        due,
+        weight: r.weight,
+        basis: l.basis,
+        price: b.price,
+        pending: i.pending,
+        confirmed: i.confirmed,
+        paid: i.paid,
+        premium: r.premium,
     }
 }
 
-// A trade and its invoices, in one of the states 3 to 6.
-fn trade_record(
-    owner: u8,
-    weight: Kilograms,
-    premium: Premium,
-    state: u8,
-    t: Trade,
-    i: Invoices,
-) -> Record
-    ensures { result ≡ flat_record owner weight premium state t.listing t.bid t.due i }
+// A trade and its invoices: struck, lodged, settled, or with the first payment made.
+fn trade_record(r: Receipt, state: State, t: Trade, i: Invoices) -> Record
+    ensures { result ≡ flat_record r.owner r.weight r.premium (state_number state) t.listing t.bid t.due i }
 {
-    let l = t.listing;
-    let b = t.bid;
-    flat_record(owner, weight, premium, state, l, b, t.due, i)
+    flat_record(r, state, t.listing, t.bid, t.due, i)
 }
 
 // A receipt with no trade: idle, listed, or with a bid that stands.
-fn untraded_record(
-    owner: u8,
-    weight: Kilograms,
-    premium: Premium,
-    state: u8,
-    l: Listing,
-    b: Bid,
-) -> Record
-    ensures { result ≡ flat_record owner weight premium state l b 0 no_invoices }
+fn untraded_record(r: Receipt, state: State, l: Listing, b: Bid) -> Record
+    ensures { result ≡ flat_record r.owner r.weight r.premium (state_number state) l b 0 no_invoices }
 {
-    flat_record(owner, weight, premium, state, l, b, 0, no_invoices())
+    flat_record(r, state, l, b, 0, no_invoices())
 }
 
 // A seller who owes the penalty to a buyer.
-fn penalty_record(
-    owner: u8,
-    weight: Kilograms,
-    premium: Premium,
-    seller: u8,
-    buyer: u8,
-    due: u16,
-) -> Record
-    ensures { result ≡ flat_record owner weight premium 7 (no_listing seller) (no_bid buyer) due no_invoices }
+fn penalty_record(r: Receipt, seller: u8, buyer: u8, due: u16) -> Record
+    ensures { result ≡ flat_record r.owner r.weight r.premium 7 (no_listing seller) (no_bid buyer) due no_invoices }
 {
-    let l = no_listing(seller);
-    let b = no_bid(buyer);
-    let none = no_invoices();
     flat_record(
-        owner,
-        weight,
-        premium,
-        State::PenaltyDue as u8,
-        l,
-        b,
+        r,
+        State::PenaltyDue,
+        no_listing(seller),
+        no_bid(buyer),
         due,
-        none,
+        no_invoices(),
     )
 }
 
+#[tactic(auto, unfolding(crate::specs::Record::record_of))]
 pub fn record_of(r: Receipt) -> Record
     ensures { result ≡ record_of r }
 {
-    let owner = r.owner;
-    let weight = r.weight;
-    let premium = r.premium;
-    let lot = r.lot;
-    let none = no_invoices();
-    match lot {
-        Lot::Idle => untraded_record(
-            owner,
-            weight,
-            premium,
-            State::Idle as u8,
-            no_listing(0),
-            no_bid(0),
-        ),
-        Lot::Listed(l) => untraded_record(
-            owner,
-            weight,
-            premium,
-            State::Listed as u8,
-            l,
-            no_bid(0),
-        ),
-        Lot::BidStands(l, b) => untraded_record(
-            owner,
-            weight,
-            premium,
-            State::BidStands as u8,
-            l,
-            b,
-        ),
-        Lot::Struck(t) => trade_record(owner, weight, premium, State::Struck as u8, t, none),
-        Lot::Lodged(t) => trade_record(owner, weight, premium, State::Lodged as u8, t, none),
-        Lot::Settled(t) => trade_record(owner, weight, premium, State::Settled as u8, t, none),
-        Lot::FirstPaid(t, i) => trade_record(owner, weight, premium, State::FirstPaid as u8, t, i),
-        Lot::PenaltyDue { seller, buyer, due } => {
-            penalty_record(owner, weight, premium, seller, buyer, due)
-        }
+    match r.lot {
+        Lot::Idle => untraded_record(r, State::Idle, no_listing(0), no_bid(0)),
+        Lot::Listed(l) => untraded_record(r, State::Listed, l, no_bid(0)),
+        Lot::BidStands(l, b) => untraded_record(r, State::BidStands, l, b),
+        Lot::Struck(t) => trade_record(r, State::Struck, t, no_invoices()),
+        Lot::Lodged(t) => trade_record(r, State::Lodged, t, no_invoices()),
+        Lot::Settled(t) => trade_record(r, State::Settled, t, no_invoices()),
+        Lot::FirstPaid(t, i) => trade_record(r, State::FirstPaid, t, i),
+        Lot::PenaltyDue { seller, buyer, due } => penalty_record(r, seller, buyer, due),
     }
 }
 
 pub fn listing_of(r: Record) -> Listing
     ensures { result ≡ listing_of r }
 {
-    let basis = r.basis;
     Listing {
         seller: r.seller,
         contract: r.contract,
         days: r.days,
-        basis: basis,
+        basis: r.basis,
     }
 }
 
 fn bid_of(r: Record) -> Bid
     ensures { result ≡ bid_of r }
 {
-    let price = r.price;
     Bid {
         buyer: r.buyer,
-        price: price,
+        price: r.price,
     }
 }
 
 pub fn trade_of(r: Record) -> Trade
     ensures { result ≡ trade_of r }
 {
-    let l = listing_of(r);
-    let b = bid_of(r);
     Trade {
-        listing: l,
-        bid: b,
+        listing: listing_of(r),
+        bid: bid_of(r),
         due: r.due,
     }
 }
