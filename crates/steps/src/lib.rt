@@ -1,48 +1,45 @@
-// The outcome of a call at the receipt that it names: a refusal number, or what the rule of its kind does there.
+// The outcome of a call at the receipt that it names: a refusal, or what the rule of its kind does there.
 #![tactic(auto)]
 
 ghost use Rattle.std.specs.Prelude.{true, ◌≡◌};
 ghost use Rattle.rules.specs.Effects.{rule_of, sweeps};
+ghost use Rattle.rules.specs.Kinds.{kind_number};
 ghost use Rattle.rules.specs.Ready.{Ready, ReadyCall};
-ghost use Rattle.rules.specs.Steps.{step_at};
+ghost use Rattle.rules.specs.Steps.{step_at, told};
 
-use rules::{
-    AtLot, Call, KIND_CONFIRM, KIND_FIRST_PAYMENT, KIND_INVOICE, KIND_LIMIT_BID, KIND_LIST,
-    KIND_LODGE, KIND_MARKET_BID, KIND_REGISTER, KIND_WITHDRAW_BID, KIND_WITHDRAW_LISTING,
-    NUMBER_ACCEPTED, Step, View,
-};
+use rules::{Call, Event, Kind, Refusal, View};
 use zone::Record;
 
 // What a call does at the receipt that it names, by its kind. Pay-ins and take-outs concern no lot. Nor does a quote or a close name one:
 // what these do at all lots they do in the image (`visits`).
-fn rule_of(v: View, c: Call, n: u8, f: Record) -> AtLot
-    requires { Ready v f × ReadyCall c f × (sweeps c.kind ≡ true → f.state ≡ 0) }
-    ensures { result ≡ rule_of c.kind v c n f }
+#[tactic(auto, unfolding(rules::specs::Effects::rule_of, rules::specs::Effects::no_rule, rules::specs::Effects::withdraw_listing, rules::specs::Effects::quote_lot, rules::specs::Effects::day_close_lot,), using(rules::specs::Laws::Trades::close_none))]
+fn rule_of(kind: Kind, v: View, c: Call, n: u8, f: Record) -> Option<Event>
+    requires kind { c.kind ≡ kind_number kind }
+    requires ready { Ready v f }
+    requires tested { ReadyCall c f }
+    requires idle { sweeps (kind_number kind) ≡ true → f.state ≡ 0 }
+    ensures { result ≡ rule_of (kind_number kind) v c n f }
 {
-    let kind = c.kind;
     match kind {
-        KIND_REGISTER => offers::register_at(c, n),
-        KIND_LIST => offers::list_at(c, n, f),
-        KIND_WITHDRAW_LISTING => offers::end_listing(n, f),
-        KIND_LIMIT_BID => offers::limit_bid(v, c, n, f),
-        KIND_MARKET_BID => offers::market_bid(v, c, n, f),
-        KIND_WITHDRAW_BID => offers::withdraw_bid(n, f),
-        KIND_LODGE => trades::lodge_at(n, f),
-        KIND_FIRST_PAYMENT => trades::pay_first(n, f),
-        KIND_INVOICE => trades::invoice_at(c, n, f),
-        KIND_CONFIRM => trades::confirm_at(n, f),
-        _ => AtLot::NoEvent,
+        Kind::Register => Some(offers::register_at(c, n)),
+        Kind::List => Some(offers::list_at(c, n, f)),
+        Kind::WithdrawListing => Some(offers::end_listing(n, f)),
+        Kind::LimitBid => Some(offers::limit_bid(v, c, n, f)),
+        Kind::MarketBid => Some(offers::market_bid(v, c, n, f)),
+        Kind::WithdrawBid => Some(offers::withdraw_bid(n, f)),
+        Kind::Lodge => Some(trades::lodge_at(n, f)),
+        Kind::FirstPayment => Some(trades::pay_first(n, f)),
+        Kind::Invoice => Some(trades::invoice_at(c, n, f)),
+        Kind::Confirm => Some(trades::confirm_at(n, f)),
+        Kind::PayIn | Kind::TakeOut | Kind::Quote | Kind::MorningClose | Kind::DayClose => None,
     }
 }
 
 // The outcome at f, the record of the receipt that the call names. Receipt 0 is none, and its record is idle.
-pub fn step_at(v: View, c: Call, f: Record) -> Step
+pub fn step_at(v: View, c: Call, f: Record) -> Result<Option<Event>, Refusal>
     requires { Ready v f × (c.receipt ≡ 0 → f.state ≡ 0) }
-    ensures { result ≡ step_at v c f }
+    ensures { told result ≡ step_at v c f }
 {
-    let n = numbers::first_number(v, c, f);
-    if n != NUMBER_ACCEPTED {
-        return Step::Refused(n);
-    }
-    Step::Accepted(rule_of(v, c, c.receipt, f))
+    let kind = numbers::judge(v, c, f)?;
+    Ok(rule_of(kind, v, c, c.receipt, f))
 }

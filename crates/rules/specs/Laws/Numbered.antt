@@ -1,6 +1,6 @@
 -- The numbers of kinds: what a number that was read as a kind is, and what one that was not read as it is not.
 -- Assumes nothing.
-use Rattle.std.specs.Prelude.{false, ◌⊎◌, ◌≡◌, ℕ, ◌≤◌, ◌<◌, Result, Ok, Err}
+use Rattle.std.specs.Prelude.{Bool, true, false, ◌⊎◌, ◌≡◌, refl, ℕ, ◌≤◌, ◌<◌, Result, Ok, Err}
 use Rattle.std.proofs.Common.{true≢false, inl, inr, sym, ap, ◌∙◌, arith}
 use Rattle.std.proofs.Math.Decide.{ℕ_discrete}
 use Rattle.std.proofs.lemmas.List.{get_or_past}
@@ -52,5 +52,38 @@ is_kind n k e =
       confirm = λ e. ap number_read e;
       day_close = λ e. ap number_read e;
       no_kind = λ n h e. let no : Err BadCall ≡ Ok k = sym (no_kind_of n h) ∙ e in cc;
+    })
+    n e
+
+-- a number that was read is a kind's
+pub read_within : (n : ℕ) (k : Kind) → kind_of n ≡ Ok k → within 1 15 n ≡ true
+read_within n k e = go (within 1 15 n) refl
+  where
+    go : (b : Bool) → within 1 15 n ≡ b → within 1 15 n ≡ true
+    go true h = h
+    go false h = let no : Err BadCall ≡ Ok k = sym (no_kind_of n h) ∙ e in cc
+
+-- a number that was not read is none, and is refused by 3
+pub unread_outside : (n : ℕ) (r : Refusal) → kind_of n ≡ Err r → (r ≡ BadCall) × (within 1 15 n ≡ false)
+unfolding kind_of
+unread_outside n r e =
+    by_kind {P = λ n. kind_of n ≡ Err r → (r ≡ BadCall) × (within 1 15 n ≡ false)}
+    (record {
+      pay_in = λ e. cc;
+      take_out = λ e. cc;
+      register = λ e. cc;
+      list = λ e. cc;
+      withdraw_listing = λ e. cc;
+      limit_bid = λ e. cc;
+      market_bid = λ e. cc;
+      withdraw_bid = λ e. cc;
+      quote = λ e. cc;
+      lodge = λ e. cc;
+      morning_close = λ e. cc;
+      first_payment = λ e. cc;
+      invoice = λ e. cc;
+      confirm = λ e. cc;
+      day_close = λ e. cc;
+      no_kind = λ n h e. let same : Err r ≡ Err BadCall = sym e ∙ no_kind_of n h in (cc, h);
     })
     n e
