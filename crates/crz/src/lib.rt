@@ -14,21 +14,42 @@ ghost use Rattle.crz.specs.Returned.{call_with, call_entry};
 
 use answers::{ANSWER_LENGTH, CALL_LENGTH, MOST_CALLS};
 use image::IMAGE_LENGTH;
-use rules::{
-    AtLot, Call, NUMBER_ACCEPTED, NUMBER_BAD_IMAGE, NUMBER_BAD_TABLE, NUMBER_SHORT_ANSWER, Step,
-};
+use rules::{Call, Event, Refusal};
 use shortfalls::FIGURES_LENGTH;
+
+// What an entry returns: the number of its refusal, 0 where there is none.
+fn returned(done: Result<(), Refusal>) -> u32
+    ensures { result ≡ returned done }
+{
+    match done {
+        Ok(()) => 0,
+        Err(refusal) => refusal as u32,
+    }
+}
 
 // ── A call ──────────────────────────────────────────────────────────────────────────────────────
 
 // An accepted call: what it does in the image, and the answer, over zeros.
-fn carry_out(image: &mut [u8], answer: &mut [u8], c: Call, at: AtLot) -> u32
+fn carry_out(image: &mut [u8], answer: &mut [u8], c: Call, at: Option<Event>)
     requires { (answer_length ≤ length answer.old) × (cleared answer.old ≡ answer.old) × (valid_image image.old ≡ true) × (step_on (decode image.old) c ≡ Accepted at) }
-    ensures { (result ≡ 0) × (image.new ≡ encode (effect (decode image.old) c).zone) × (answer.new ≡ accepted_answer (effect (decode image.old) c).zone (effect (decode image.old) c).entries answer.old) }
+    ensures { (image.new ≡ encode (effect (decode image.old) c).zone) × (answer.new ≡ accepted_answer (effect (decode image.old) c).zone (effect (decode image.old) c).entries answer.old) }
 {
     let count = calls::perform(image, c, at, answer);
     answers::put_header(answer, image, count);
-    NUMBER_ACCEPTED as u32
+}
+
+// A call with an answer of zeros: carried out, or refused with both buffers as they were.
+fn carry(image: &mut [u8], valid: bool, c: Call, answer: &mut [u8]) -> Result<(), Refusal>
+    requires verdict { valid ≡ valid_image image.old }
+    requires zeros { (answer_length ≤ length answer.old) × (cleared answer.old ≡ answer.old) }
+    ensures { MatchResult result (λ _. Carried image.old c answer.old image.new answer.new) (λ refusal. Kept image.old c (refusal_number refusal) × (image.new ≡ image.old) × (answer.new ≡ answer.old)) }
+{
+    if !valid {
+        return Err(Refusal::BadImage);
+    }
+    let at = lots::step_of(image, c)?;
+    carry_out(image, answer, c, at);
+    Ok(())
 }
 
 // A call given by its fields, on an image whose verdict is known.
@@ -37,16 +58,12 @@ pub fn make_call(image: &mut [u8], valid: bool, c: Call, answer: &mut [u8]) -> u
     ensures { (result, image.new, answer.new) ≡ call_with image.old c answer.old }
 {
     if answer.len() < ANSWER_LENGTH {
-        return NUMBER_SHORT_ANSWER as u32;
+        return Refusal::ShortAnswer as u32;
     }
     answers::clear(answer);
-    if !valid {
-        return answers::refuse(answer, NUMBER_BAD_IMAGE);
-    }
-    let step = lots::step_of(image, c);
-    match step {
-        Step::Refused(n) => answers::refuse(answer, n),
-        Step::Accepted(at) => carry_out(image, answer, c, at),
+    match carry(image, valid, c, answer) {
+        Ok(()) => 0,
+        Err(refusal) => answers::refuse(answer, refusal),
     }
 }
 
@@ -60,32 +77,15 @@ pub fn crz_call(image: &mut [u8], call: &[u8], answer: &mut [u8]) -> u32
 
 // ── A table of calls ────────────────────────────────────────────────────────────────────────────
 
-// Calls in turn, each with its own part of the answers.
+// Calls in turn, each with its own part of the answers. (Not by `chunks_exact_mut`: after it a proof knows the length of the answers alone.)
 fn make_calls(image: &mut [u8], valid: bool, calls: &[Call], answers: &mut [u8])
     requires { (valid ≡ valid_image image.old) × (length calls.now * answer_length ≤ length answers.old) }
     ensures { (image.new, answers.new) ≡ in_turn call_with image.old calls.now answers.old }
 {
-    let mut i: usize = 0;
-    while i < calls.len() {
+    for (i, c) in calls.iter().enumerate() {
         let at = i * ANSWER_LENGTH;
-        let end = at + ANSWER_LENGTH;
-        make_call(image, valid, calls[i], &mut answers[at..end]);
-        i += 1;
+        make_call(image, valid, *c, &mut answers[at..at + ANSWER_LENGTH]);
     }
-}
-
-// The first `count` calls of an array, lent as a slice.
-fn make_first(
-    image: &mut [u8],
-    valid: bool,
-    calls: [Call; MOST_CALLS],
-    count: usize,
-    answers: &mut [u8],
-)
-    requires { (valid ≡ valid_image image.old) × (count ≤ most_calls) × (count * answer_length ≤ length answers.old) }
-    ensures { (image.new, answers.new) ≡ in_turn call_with image.old (take count calls) answers.old }
-{
-    make_calls(image, valid, &calls[..count], answers);
 }
 
 // Whether a table of so many bytes is taken, with answers of so many.
@@ -96,46 +96,64 @@ fn table_fits(calls: usize, answers: usize) -> bool
     (calls % CALL_LENGTH == 0) & (count <= MOST_CALLS) & (count <= answers / ANSWER_LENGTH)
 }
 
+fn make_table(image: &mut [u8], calls: &[u8], answers: &mut [u8]) -> Result<(), Refusal>
+    ensures { (returned result, image.new, answers.new) ≡ table_entry image.old calls.now answers.old }
+{
+    if !table_fits(calls.len(), answers.len()) {
+        return Err(Refusal::BadTable);
+    }
+    let valid = verdict::image_ok(image);
+    let count = calls.len() / CALL_LENGTH;
+    make_calls(image, valid, &answers::read_calls(calls)[..count], answers);
+    Ok(())
+}
+
 // Makes a table of calls on an image and returns 0, with the number of each in its own answer; or 14, by the lengths alone, and leaves all
 // buffers as they are.
 pub fn crz_table(image: &mut [u8], calls: &[u8], answers: &mut [u8]) -> u32
     ensures { (result, image.new, answers.new) ≡ table_entry image.old calls.now answers.old }
 {
-    if !table_fits(calls.len(), answers.len()) {
-        return NUMBER_BAD_TABLE as u32;
-    }
-    let valid = verdict::image_ok(image);
-    let count = calls.len() / CALL_LENGTH;
-    make_first(image, valid, answers::read_calls(calls), count, answers);
-    NUMBER_ACCEPTED as u32
+    returned(make_table(image, calls, answers))
 }
 
 // ── Shortfalls ──────────────────────────────────────────────────────────────────────────────────
+
+fn write_figures(image: &[u8], figures: &mut [u8]) -> Result<(), Refusal>
+    ensures { (returned result, image.now, figures.new) ≡ shortfalls_entry image.now figures.old }
+{
+    if figures.len() < FIGURES_LENGTH {
+        return Err(Refusal::ShortAnswer);
+    }
+    if !verdict::image_ok(image) {
+        return Err(Refusal::BadImage);
+    }
+    shortfalls::put_figures(image, figures);
+    Ok(())
+}
 
 // Writes what each account has to pay in before the morning close and returns 0; or 1 where the figures are too short, then 2 where the
 // image is not valid, and writes nothing.
 pub fn crz_shortfalls(image: &[u8], figures: &mut [u8]) -> u32
     ensures { (result, image.now, figures.new) ≡ shortfalls_entry image.now figures.old }
 {
-    if figures.len() < FIGURES_LENGTH {
-        return NUMBER_SHORT_ANSWER as u32;
-    }
-    if !verdict::image_ok(image) {
-        return NUMBER_BAD_IMAGE as u32;
-    }
-    shortfalls::put_figures(image, figures);
-    NUMBER_ACCEPTED as u32
+    returned(write_figures(image, figures))
 }
 
 // ── A fresh image ───────────────────────────────────────────────────────────────────────────────
+
+fn write_fresh(image: &mut [u8]) -> Result<(), Refusal>
+    ensures { (returned result, image.new) ≡ fresh_entry image.old }
+{
+    if image.len() != IMAGE_LENGTH {
+        return Err(Refusal::BadImage);
+    }
+    fresh::write_image(image, fresh::fresh_zone());
+    Ok(())
+}
 
 // Writes a fresh image and returns 0; a buffer of another length than an image's is left as it is, with 2.
 pub fn crz_fresh(image: &mut [u8]) -> u32
     ensures { (result, image.new) ≡ fresh_entry image.old }
 {
-    if image.len() != IMAGE_LENGTH {
-        return NUMBER_BAD_IMAGE as u32;
-    }
-    fresh::write_image(image, fresh::fresh_zone());
-    NUMBER_ACCEPTED as u32
+    returned(write_fresh(image))
 }
