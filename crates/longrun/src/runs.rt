@@ -66,8 +66,9 @@ impl<R: Print> Run<'_, R> {
         self.report.count_call(&made)
     }
 
-    fn make_some_table(&mut self) -> io::Result<()> {
-        let mut maker = TableMaker {
+    // Makes tables on the run's own images.
+    fn table_maker(&mut self) -> TableMaker<'_, R> {
+        TableMaker {
             report: Report {
                 rt: self.report.rt,
                 tally: self.report.tally,
@@ -76,8 +77,7 @@ impl<R: Print> Run<'_, R> {
             plan: self.plan,
             sides: &mut self.sides,
             altered: false,
-        };
-        maker.make_some_table()
+        }
     }
 
     fn next_call(&mut self) -> io::Result<()> {
@@ -85,22 +85,8 @@ impl<R: Print> Run<'_, R> {
             0..=11 => self.judge_altered(),
             12..=23 => self.make_call(true),
             24..=97 => self.make_call(false),
-            _ => self.make_some_table(),
+            _ => self.table_maker().make_some_table(),
         }
-    }
-
-    fn open(&mut self) -> io::Result<()> {
-        let mut maker = TableMaker {
-            report: Report {
-                rt: self.report.rt,
-                tally: self.report.tally,
-            },
-            draws: &mut self.draws,
-            plan: self.plan,
-            sides: &mut self.sides,
-            altered: false,
-        };
-        maker.open()
     }
 
     fn ask_now_and_then(&mut self) -> io::Result<()> {
@@ -113,7 +99,7 @@ impl<R: Print> Run<'_, R> {
 }
 
 // Both sides start on their own fresh image; a later day is written into both.
-pub fn run<R: Print>(rt: &R, plan: Plan, tally: &mut Tally) -> io::Result<()> {
+pub fn make_run<R: Print>(rt: &R, plan: Plan, tally: &mut Tally) -> io::Result<()> {
     let mut report = Report { rt, tally };
     let mut sides = Sides::on(&filled());
     make_fresh(&mut report, &mut sides, IMAGE_LENGTH)?;
@@ -125,7 +111,7 @@ pub fn run<R: Print>(rt: &R, plan: Plan, tally: &mut Tally) -> io::Result<()> {
         plan,
         sides,
     };
-    run.open()?;
+    run.table_maker().open()?;
     for _ in 0..plan.calls {
         run.ask_now_and_then()?;
         run.next_call()?;
