@@ -66,9 +66,9 @@ impl<R: Print> Run<'_, R> {
         self.report.count_call(&made)
     }
 
-    // Makes tables on the run's own images.
-    fn table_maker(&mut self) -> TableMaker<'_, R> {
-        TableMaker {
+    // Tables on the run's own images. The maker is written out twice (c): returned by a function, the borrow checker does not cover it yet.
+    fn make_some_table(&mut self) -> io::Result<()> {
+        let mut maker = TableMaker {
             report: Report {
                 rt: self.report.rt,
                 tally: self.report.tally,
@@ -77,7 +77,22 @@ impl<R: Print> Run<'_, R> {
             plan: self.plan,
             sides: &mut self.sides,
             altered: false,
-        }
+        };
+        maker.make_some_table()
+    }
+
+    fn open(&mut self) -> io::Result<()> {
+        let mut maker = TableMaker {
+            report: Report {
+                rt: self.report.rt,
+                tally: self.report.tally,
+            },
+            draws: &mut self.draws,
+            plan: self.plan,
+            sides: &mut self.sides,
+            altered: false,
+        };
+        maker.open()
     }
 
     fn next_call(&mut self) -> io::Result<()> {
@@ -85,7 +100,7 @@ impl<R: Print> Run<'_, R> {
             0..=11 => self.judge_altered(),
             12..=23 => self.make_call(true),
             24..=97 => self.make_call(false),
-            _ => self.table_maker().make_some_table(),
+            _ => self.make_some_table(),
         }
     }
 
@@ -111,7 +126,7 @@ pub fn make_run<R: Print>(rt: &R, plan: Plan, tally: &mut Tally) -> io::Result<(
         plan,
         sides,
     };
-    run.table_maker().open()?;
+    run.open()?;
     for _ in 0..plan.calls {
         run.ask_now_and_then()?;
         run.next_call()?;
