@@ -31,9 +31,9 @@ fn plan(seed: u64, calls: u64, receipts: u64, accounts: u64, closes: u64) -> Pla
 
 // Few lots and accounts, so that most calls meet lots in the middle of their way.
 fn small_zones(rt: &impl Print, tally: &mut Tally) -> io::Result<()> {
-    runs::run(rt, plan(11400714819323198485, 16000, 24, 8, 40), tally)?;
-    runs::run(rt, plan(15111557264842353923, 14000, 40, 12, 30), tally)?;
-    runs::run(rt, plan(2685821657736338717, 18000, 8, 3, 60), tally)
+    runs::make_run(rt, plan(11400714819323198485, 16000, 24, 8, 40), tally)?;
+    runs::make_run(rt, plan(15111557264842353923, 14000, 40, 12, 30), tally)?;
+    runs::make_run(rt, plan(2685821657736338717, 18000, 8, 3, 60), tally)
 }
 
 // All lots go through closes and quotes first, so that answers are full. The calls after that draw from all receipts and accounts in
@@ -47,8 +47,8 @@ fn long_answers(rt: &impl Print, tally: &mut Tally) -> io::Result<()> {
         opening: Some(Opening::EachContract),
         ..plan(6364136223846793005, 12000, RECEIPTS / 2, ACCOUNTS / 4, 20)
     };
-    runs::run(rt, all, tally)?;
-    runs::run(rt, half, tally)
+    runs::make_run(rt, all, tally)?;
+    runs::make_run(rt, half, tally)
 }
 
 // Money up to the limit, and the last days that a zone has.
@@ -58,7 +58,7 @@ fn last_days(rt: &impl Print, tally: &mut Tally) -> io::Result<()> {
         opening: Some(Opening::ToLimit),
         ..plan(12605985483714917081, 12000, 24, 6, 40)
     };
-    runs::run(rt, late, tally)
+    runs::make_run(rt, late, tally)
 }
 
 fn main(rt: HostRuntime) -> io::Result<()> {

@@ -66,6 +66,7 @@ impl<R: Print> Run<'_, R> {
         self.report.count_call(&made)
     }
 
+    // Tables on the run's own images. The maker is written out twice (c): returned by a function, the borrow checker does not cover it yet.
     fn make_some_table(&mut self) -> io::Result<()> {
         let mut maker = TableMaker {
             report: Report {
@@ -78,15 +79,6 @@ impl<R: Print> Run<'_, R> {
             altered: false,
         };
         maker.make_some_table()
-    }
-
-    fn next_call(&mut self) -> io::Result<()> {
-        match self.draws.below(100) {
-            0..=11 => self.judge_altered(),
-            12..=23 => self.make_call(true),
-            24..=97 => self.make_call(false),
-            _ => self.make_some_table(),
-        }
     }
 
     fn open(&mut self) -> io::Result<()> {
@@ -103,6 +95,15 @@ impl<R: Print> Run<'_, R> {
         maker.open()
     }
 
+    fn next_call(&mut self) -> io::Result<()> {
+        match self.draws.below(100) {
+            0..=11 => self.judge_altered(),
+            12..=23 => self.make_call(true),
+            24..=97 => self.make_call(false),
+            _ => self.make_some_table(),
+        }
+    }
+
     fn ask_now_and_then(&mut self) -> io::Result<()> {
         let report = Report {
             rt: self.report.rt,
@@ -113,7 +114,7 @@ impl<R: Print> Run<'_, R> {
 }
 
 // Both sides start on their own fresh image; a later day is written into both.
-pub fn run<R: Print>(rt: &R, plan: Plan, tally: &mut Tally) -> io::Result<()> {
+pub fn make_run<R: Print>(rt: &R, plan: Plan, tally: &mut Tally) -> io::Result<()> {
     let mut report = Report { rt, tally };
     let mut sides = Sides::on(&filled());
     make_fresh(&mut report, &mut sides, IMAGE_LENGTH)?;

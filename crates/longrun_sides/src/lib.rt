@@ -4,12 +4,12 @@
 
 mod buffers;
 mod call_tables;
-mod calls;
 mod figures;
 mod sides;
+mod single_calls;
 
 pub use buffers::{filled, filled_answers};
 pub use call_tables::MadeAlone;
-pub use calls::record_of;
 pub use figures::ask_shortfalls;
 pub use sides::Sides;
+pub use single_calls::record_of;
