@@ -237,7 +237,11 @@ pub fn of_outcome(outcome: u64, what: u64) -> u64 {
 }
 
 pub fn of_contract(contract: u64, what: u64) -> u64 {
-    CONTRACT_COUNTS.wrapping_add(contract.wrapping_mul(COUNTS_OF_CONTRACT).wrapping_add(what))
+    CONTRACT_COUNTS.saturating_add(
+        contract
+            .saturating_mul(COUNTS_OF_CONTRACT)
+            .saturating_add(what),
+    )
 }
 
 // The calls at a limit's `step`: 0 before it, 1 at it, 2 behind it. Those accepted and those refused come next.
