@@ -390,7 +390,7 @@ fn start_in_record(column: u64, first: u64) -> usize {
     end_in_record(column.wrapping_sub(1))
 }
 
-// The bytes of a field in the record of a row.
+// The bytes of a field in the record of a row. Row 0, which is nobody's, has those of row 1, as has one from 2^32 + 1 on.
 pub fn place_of(column: u64, row: u64) -> Range<usize> {
     let table = table_of(column);
     let before = product(row.wrapping_sub(1), table.length as u64) as usize;

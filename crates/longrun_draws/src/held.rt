@@ -1,5 +1,4 @@
 // What a lot holds, put elsewhere in an image.
-use crate::requests::full_of;
 use ledger_book::{ACCOUNTS, BUYER, Cells, FREE, FROZEN, Page, SELLER};
 
 // Where to: frozen money of the seller, frozen money of the account before the buyer, the buyer's free money.
