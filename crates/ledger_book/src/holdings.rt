@@ -6,7 +6,7 @@ use crate::places::{BASIS, PAID, PHASE, PREMIUM, PRICE, STATE, WEIGHT};
 
 // What has the fields of an image by column and row: the book, or the bytes of a page.
 pub trait Cells {
-    // 0 where there is no such cell.
+    // 0 where book or page end before the cell.
     fn cell(&self, column: u64, row: u64) -> u64;
 
     fn phase(&self) -> Phase {
