@@ -61,7 +61,7 @@ fn post_one(image: &mut [u8], at: Option<Event>, answer: &mut [u8]) -> usize
 
 // ── Opening and ending ──────────────────────────────────────────────────────────────────────────
 
-#[tactic(auto, unfolding(rules::specs::Effects::opening))]
+#[tactic(auto, using(image::specs::Laws::RoundTrip::same_long), unfolding(rules::specs::Effects::opening))]
 fn open_call(image: &mut [u8], kind: Kind, c: Call)
     requires { Encoded image.old × (valid_zone (decode image.old) ≡ true) × (number_on (decode image.old) c ≡ 0) × (c.kind ≡ kind_number kind) }
     ensures { image.new ≡ encode (opening c (decode image.old)) }
@@ -84,7 +84,7 @@ fn open_call(image: &mut [u8], kind: Kind, c: Call)
     }
 }
 
-#[tactic(auto, unfolding(rules::specs::Effects::ending))]
+#[tactic(auto, using(image::specs::Laws::RoundTrip::same_long), unfolding(rules::specs::Effects::ending))]
 fn end_call(image: &mut [u8], kind: Kind)
     requires { Encoded image.old × Fits (decode image.old) }
     ensures { (c : Call) → c.kind ≡ kind_number kind → image.new ≡ encode (ending c (decode image.old)) }
@@ -103,7 +103,7 @@ fn end_call(image: &mut [u8], kind: Kind)
 // ── The order of the entries ────────────────────────────────────────────────────────────────────
 
 // A quote lists its strikes by price; every other call has its entries as the lots were visited.
-#[tactic(auto, unfolding(rules::specs::Order::answer_order))]
+#[tactic(auto, using(answers::specs::Laws::Entries::as_they_stand), unfolding(rules::specs::Order::answer_order))]
 fn answer_order(kind: Kind, answer: &mut [u8], count: usize)
     requires { (answer_length ≤ length answer.old) × (count ≤ receipt_count) }
     ensures { answer.new ≡ with_entries 0 (answer_order (kind_number kind) (entries_from 0 count answer.old)) answer.old }

@@ -1,5 +1,5 @@
 // A call at one lot of an image: what its rule reads, and what it does there.
-#![tactic(auto)]
+#![tactic(auto, using(image::specs::Laws::RoundTrip::same_long))]
 
 ghost use Rattle.std.specs.Prelude.{true, ◌≡◌, ◌≤◌, ◌<◌, length};
 ghost use Rattle.units.specs.Ranges.{contract_count, receipt_count};

@@ -8,7 +8,7 @@ use borrow.Author.Tests.{le-leb, lt-leb, ne_eqb}
 use Rattle.std.proofs.Math.Dec.{leb}
 use Rattle.units.specs.declared.Fen.{Fen}
 use Rattle.units.specs.Payments.{fen, deposit, penalty_passed}
-use Rattle.units.specs.Ranges.{account_count, money_limit}
+use Rattle.units.specs.Ranges.{account_count, money_limit, most_weight}
 use Rattle.zone.specs.declared.Account.{Account}
 use Rattle.zone.specs.declared.Hold.{Hold}
 use Rattle.zone.specs.declared.Lot.TheVariants.{Idle, Settled, PenaltyDue}
@@ -16,6 +16,7 @@ use Rattle.zone.specs.declared.Receipt.{Receipt}
 use Rattle.zone.specs.declared.Record.{Record}
 use Rattle.zone.specs.declared.Zone.{Zone}
 use Rattle.zone.specs.Held.{full, held, hold_of}
+use Rattle.zone.specs.Laws.Facts.{bounds}
 use Rattle.zone.specs.Parts.{with_accounts, with_receipts}
 use Rattle.zone.specs.Record.{record_of, receipt_of, trade_of}
 use Rattle.zone.specs.declared.State.{State}
@@ -100,6 +101,9 @@ module _ {n : ℕ} {s : List ℕ} {f : Record} (D : Due n s f) where
   -- the record is valid, and the buyer's money within its limit
   pub due_valid : record_valid f ≡ true
   due_valid = rw D.read (record_valid_lem (decode s) (valid_fits (decode s) D.at.valid) n)
+
+  pub due_weight : f.weight.0 ≤ most_weight
+  due_weight = (bounds f due_valid).weight
 
   pub buyer_limit : (free_of (decode s).accounts f.buyer).0 ≤ money_limit
   unfolding view_of
