@@ -76,6 +76,8 @@ fn has_money(free: Fen, full: Fen) -> bool
     full <= free + units::deposit_per_receipt()
 }
 
+// In these three, n and f stay beside the image: a struct of them would have to keep `Due`, which the first write ends.
+
 // Paid in full, the receipt is the buyer's; without the money the deposit passes.
 fn close_lodged(image: &mut [u8], n: u8, f: Record) -> Entry
     requires { Due n image.old f × (f.state ≡ 4) }
