@@ -10,6 +10,7 @@ use Rattle.zone.specs.Valid.{fields_ok, record_valid}
 use Rattle.zone.specs.Laws.Tests.{both}
 use Rattle.image.specs.Layout.{receipt_run, record_in}
 use Rattle.validity.specs.ByState.{kept_ok}
+use Rattle.verdict.specs.Laws.States.{known_state}
 use Rattle.verdict.proofs.registered_ok.Goals as goal
 use Rattle.verdict.proofs.registered_ok.Goals.{Else-not-kept_ok}
 
@@ -33,21 +34,9 @@ at_most c =
     let t : leb r.state 7 && is_account r.owner && is_weight r.weight.0 && is_premium r.premium.0 ≡ true = kept c in
     leb-true _ 7 (both _ _ (both _ _ (both _ _ t).0).0).0
 
-known : (n : ℕ) → n ≤ 7 → (s : State) × (state_of n ≡ Ok s)
-unfolding state_of
-known zero h = (Idle, refl)
-known (suc zero) h = (Listed, refl)
-known (suc (suc zero)) h = (BidStands, refl)
-known (suc (suc (suc zero))) h = (Struck, refl)
-known (suc (suc (suc (suc zero)))) h = (Lodged, refl)
-known (suc (suc (suc (suc (suc zero))))) h = (Settled, refl)
-known (suc (suc (suc (suc (suc (suc zero)))))) h = (FirstPaid, refl)
-known (suc (suc (suc (suc (suc (suc (suc zero))))))) h = (PenaltyDue, refl)
-known (suc (suc (suc (suc (suc (suc (suc (suc n)))))))) h = absurd (omega arith)
-
 pub unreachable-requires : goal.unreachable-requires
 unreachable-requires c =
-    let s = known c.state_at.result (omega (arith, at_most (goal.at.unreachable-requires c).Else-not-kept_ok, c.state_at.ensures)) in
+    let s = known_state c.state_at.result (omega (arith, at_most (goal.at.unreachable-requires c).Else-not-kept_ok, c.state_at.ensures)) in
     c.in_default.not-Ok s.0 (c.try_from.ensures ∙ s.1)
 
 pub state_ok-requires : goal.state_ok-requires
