@@ -154,11 +154,6 @@ calls_made {start} {list} (call ∷ calls) {image} answers h m =
       number_first image call own r.0 r.1 r.2 refl (omega (arith, own_long (length calls) answers h)),
     ) (calls_made {list = record { call = call; number = r.0; answer = r.2 } ∷ list} calls (drop answer_length answers) (room_behind (length calls) answers h) (then m call own r.0 r.1 r.2 refl))
 
--- a table's records are as many as its lengths say
-records_long : (calls : List ℕ) → length (call_records calls) ≡ call_count calls
-unfolding call_records
-records_long calls = length_table (call_count calls) _
-
 table_room : (image calls answers image' answers' : List ℕ) → Taken image calls answers image' answers' → length (call_records calls) * answer_length ≤ length answers
 table_room image calls answers image' answers' T = rw (records_long calls) (fitting (length calls) (length answers) T.fits).room
 

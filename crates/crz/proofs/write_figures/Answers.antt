@@ -10,8 +10,8 @@ use Rattle.image.specs.Image.{valid_image, decode}
 use Rattle.shortfalls.specs.Laws.Figures.{figures_put}
 use Rattle.shortfalls.specs.Shortfalls.{figures_length}
 use Rattle.crz.specs.Figures.{shortfalls_entry}
-use Rattle.crz.proofs.crz_shortfalls.Goals as goal
-use Rattle.crz.proofs.crz_shortfalls.Goals.{Else-not-image_ok}
+use Rattle.crz.proofs.write_figures.Goals as goal
+use Rattle.crz.proofs.write_figures.Goals.{Else-not-image_ok}
 
 pub returns-then-figures-lt-FIGURES_LENGTH : goal.returns-then-figures-lt-FIGURES_LENGTH
 unfolding shortfalls_entry

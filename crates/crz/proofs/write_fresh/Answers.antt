@@ -6,7 +6,7 @@ use lib.ListN.{length}
 use Rattle.image.specs.Image.{encode}
 use Rattle.image.specs.Layout.{image_length}
 use Rattle.crz.specs.Fresh.{fresh_entry}
-use Rattle.crz.proofs.crz_fresh.Goals as goal
+use Rattle.crz.proofs.write_fresh.Goals as goal
 
 pub returns-then-image-ne-IMAGE_LENGTH : goal.returns-then-image-ne-IMAGE_LENGTH
 unfolding fresh_entry
