@@ -70,6 +70,7 @@ pub fn make_call(image: &mut [u8], valid: bool, c: Call, answer: &mut [u8]) -> u
 }
 
 // Makes a call on an image. Returns 0 and writes image and answer, or a refusal's number: 1 writes nothing, any other fills the answer.
+#[tactic(auto, using(crate::specs::Laws::Returned::record_call))]
 pub fn crz_call(image: &mut [u8], call: &[u8], answer: &mut [u8]) -> u32
     ensures { (result, image.new, answer.new) ≡ call_entry image.old call.now answer.old }
 {
@@ -91,6 +92,7 @@ fn make_calls(image: &mut [u8], valid: bool, calls: &[Call], answers: &mut [u8])
 }
 
 // Whether a table of so many bytes is taken, with answers of so many.
+#[tactic(auto, unfolding(crate::specs::CallTable::table_fits), using(crate::specs::Laws::CallTable::room_for))]
 fn table_fits(calls: usize, answers: usize) -> bool
     ensures { result ≡ table_fits calls answers }
 {
@@ -121,6 +123,7 @@ pub fn crz_table(image: &mut [u8], calls: &[u8], answers: &mut [u8]) -> u32
 
 // ── Shortfalls ──────────────────────────────────────────────────────────────────────────────────
 
+#[tactic(auto, unfolding(crate::specs::Figures::shortfalls_entry))]
 fn write_figures(image: &[u8], figures: &mut [u8]) -> Result<(), Refusal>
     ensures { (returned result, image.now, figures.new) ≡ shortfalls_entry image.now figures.old }
 {
@@ -144,6 +147,7 @@ pub fn crz_shortfalls(image: &[u8], figures: &mut [u8]) -> u32
 
 // ── A fresh image ───────────────────────────────────────────────────────────────────────────────
 
+#[tactic(auto, unfolding(crate::specs::Fresh::fresh_entry))]
 fn write_fresh(image: &mut [u8]) -> Result<(), Refusal>
     ensures { (returned result, image.new) ≡ fresh_entry image.old }
 {

@@ -21,7 +21,7 @@ use Rattle.image.specs.Table.{table, run_at}
 use Rattle.answers.specs.Buffers.{call_length, call_in, call_count, call_records, answer_length, answer_number_place, header_of, accepted_bytes, accepted_answer, refused_answer, padded}
 use Rattle.answers.specs.Laws.Answer.{padded_long, accepted_long}
 use Rattle.crz.specs.CallTable.{in_turn, table_fits, table_entry}
-use Rattle.crz.specs.Laws.CallTable.{fitting, Taken, table_taken, table_left}
+use Rattle.crz.specs.Laws.CallTable.{fitting, records_long, Taken, table_taken, table_left}
 use Rattle.crz.specs.Laws.Figures.{image_left}
 use Rattle.crz.specs.Laws.Numbers.{refused_by}
 use Rattle.crz.specs.Laws.Returned.{Left, refused, accepted, returned_case}
