@@ -28,7 +28,7 @@ module _ (r : Record) where
 
   pub idle : r.state ≡ 0 → eqb r.seller 0 && listing_zero r && bid_zero r && eqb r.due 0 ≡ fields
   unfolding listing_ok bid_ok due_ok owner_ok
-  idle e = rw e (simp (or-false, and-true, and_assoc))
+  idle e = rw e (simp (and-true, and_assoc))
 
   pub listed : r.state ≡ 1 → listing_fits r && bid_zero r && eqb r.due 0 && eqb r.owner r.seller ≡ fields
   unfolding listing_ok bid_ok due_ok owner_ok
@@ -45,8 +45,8 @@ module _ (r : Record) where
 
   bought_in : (s : ℕ) → r.state ≡ s → (s ≡ 5) ⊎ (s ≡ 6) → listing_fits r && bid_fits r && due_fits r && eqb r.owner r.buyer ≡ fields
   unfolding listing_ok bid_ok due_ok owner_ok
-  bought_in s e (inl q) = rw (e ∙ q) (simp (or-false, and-true, and_assoc))
-  bought_in s e (inr q) = rw (e ∙ q) (simp (or-false, and-true, and_assoc))
+  bought_in s e (inl q) = rw (e ∙ q) (simp (or-false, and_assoc))
+  bought_in s e (inr q) = rw (e ∙ q) (simp (or-false, and_assoc))
 
   pub struck : 3 ≤ r.state → r.state ≤ 4 → listing_fits r && bid_fits r && due_fits r && eqb r.owner r.seller ≡ fields
   struck l h = in_trade r.state refl (one_of_two r.state 3 l h)

@@ -1,1 +1,2 @@
 pub mod ByState
+pub mod Money

@@ -3,15 +3,13 @@
 
 ghost use Rattle.std.specs.Prelude.{◌≡◌, true, ◌≤◌};
 ghost use Rattle.units.specs.Ranges.{most_weight};
-ghost use Rattle.zone.specs.Held.{full, hold_of};
+ghost use Rattle.zone.specs.Held.{full, held, hold_of};
+ghost use Rattle.zone.specs.State.{state_number};
 ghost use Rattle.zone.specs.Valid.{invoices_within, no_invoices_ok, fields_ok, record_valid, ask_ok};
 ghost use Rattle.validity.specs.ByState.{kept_ok, listing_fits, listing_zero, bid_fits, bid_zero, due_fits, buyer_fits};
 
 use units::{Fen, LAST_DUE, YuanPerTonne};
-use zone::{
-    Hold, Record, STATE_BID_STANDS, STATE_FIRST_PAID, STATE_LODGED, STATE_PENALTY_DUE,
-    STATE_SETTLED,
-};
+use zone::{Hold, Record, State};
 
 // ── Fields ──────────────────────────────────────────────────────────────────────────────────────
 
@@ -19,7 +17,7 @@ use zone::{
 pub fn kept_ok(r: Record) -> bool
     ensures { result ≡ kept_ok r }
 {
-    (r.state <= STATE_PENALTY_DUE)
+    (r.state <= State::PenaltyDue as u8)
         & units::is_account(r.owner)
         & units::is_weight(r.weight.0)
         & units::is_premium(r.premium.0)
@@ -29,31 +27,26 @@ pub fn kept_ok(r: Record) -> bool
 fn listing_fits(r: Record) -> bool
     ensures { result ≡ listing_fits r }
 {
-    let basis = r.basis.0;
     units::is_account(r.seller)
         & units::is_contract(r.contract)
         & units::is_days(r.days)
-        & units::is_basis(basis)
+        & units::is_basis(r.basis.0)
 }
 
 fn listing_is_zero(r: Record) -> bool
     ensures { result ≡ listing_zero r }
 {
-    let basis = r.basis.0;
-    (r.contract == 0) & (r.days == 0) & units::is_zero(basis)
+    (r.contract == 0) & (r.days == 0) & units::is_zero(r.basis.0)
 }
 
 // Buyer and price are a bid's.
 fn bid_fits(r: Record) -> bool
     ensures { result ≡ bid_fits r }
 {
-    let price = r.price;
-    let basis = r.basis;
-    let premium = r.premium;
     units::is_account(r.buyer)
-        & units::is_price(price.0 as u64)
-        & !(r.buyer == r.seller)
-        & units::is_payable(price, basis, premium)
+        & units::is_price(u64::from(r.price.0))
+        & (r.buyer != r.seller)
+        & units::is_payable(r.price, r.basis, r.premium)
 }
 
 fn bid_is_zero(r: Record) -> bool
@@ -65,58 +58,50 @@ fn bid_is_zero(r: Record) -> bool
 fn due_fits(r: Record) -> bool
     ensures { result ≡ due_fits r }
 {
-    (1 <= r.due) & (r.due <= LAST_DUE)
+    (1..=LAST_DUE).contains(&r.due)
 }
 
 // The buyer to whom a penalty is due; the trade's price is gone.
 fn buyer_fits(r: Record) -> bool
     ensures { result ≡ buyer_fits r }
 {
-    units::is_account(r.buyer) & (r.price.0 == 0) & !(r.buyer == r.seller)
+    units::is_account(r.buyer) & (r.price.0 == 0) & (r.buyer != r.seller)
 }
 
+#[tactic(auto, unfolding(zone::specs::Valid::no_invoices_ok))]
 fn no_invoices_ok(r: Record) -> bool
     ensures { result ≡ no_invoices_ok r }
 {
     (r.pending.0 == 0) & (r.confirmed.0 == 0) & (r.paid.0 == 0)
 }
 
+#[tactic(auto, unfolding(zone::specs::Held::full))]
 pub fn full_of(r: Record) -> Fen
     requires { r.weight.0 ≤ most_weight }
     ensures { result ≡ full r }
 {
-    let price = r.price;
-    let basis = r.basis;
-    let premium = r.premium;
-    let weight = r.weight;
-    units::full_payment(price, basis, premium, weight)
+    units::full_payment(r.price, r.basis, r.premium, r.weight)
 }
 
-// The tests go in an order in which no sum can wrap.
+// The tests go in an order in which no difference falls below 0.
+#[tactic(auto, using(crate::proofs::Money::weight_in, crate::proofs::Money::full_in), unfolding(zone::specs::Valid::invoices_within))]
 fn invoices_within(r: Record) -> bool
     requires { (r.state ≡ 6) × (fields_ok r ≡ true) }
     ensures { result ≡ invoices_within r }
 {
     let full = full_of(r);
-    let confirmed = r.confirmed;
-    let paid = r.paid;
-    let all = full.0;
-    let sum = r.confirmed.0;
-    let pending = r.pending.0;
-    if all <= sum {
-        return false;
-    }
-    if all < pending {
-        return false;
-    }
-    (sum + pending <= all) & units::is_paid_so_far(full, confirmed, paid)
+    r.confirmed < full
+        && r.pending <= full - r.confirmed
+        && units::is_paid_so_far(full, r.confirmed, r.paid)
 }
 
 // ── One record, by its state ────────────────────────────────────────────────────────────────────
 
 // Each of these judges a record in its state that `kept_ok` has passed. They are apart so that whoever reads a record out of an image
-// reads, once it knows the state, only the fields that the state's tests need.
+// reads, once it knows the state, only the fields that the state's tests need. They take the record itself, as `verdict` has it, and no
+// type for one that `kept_ok` has passed.
 
+#[tactic(auto, using(crate::proofs::ByState::idle, crate::proofs::ByState::judged))]
 pub fn idle_ok(r: Record) -> bool
     requires { (kept_ok r ≡ true) × (r.state ≡ 0) }
     ensures { result ≡ record_valid r }
@@ -124,6 +109,7 @@ pub fn idle_ok(r: Record) -> bool
     (r.seller == 0) & listing_is_zero(r) & bid_is_zero(r) & (r.due == 0) & no_invoices_ok(r)
 }
 
+#[tactic(auto, using(crate::proofs::ByState::listed, crate::proofs::ByState::judged))]
 pub fn listed_ok(r: Record) -> bool
     requires { (kept_ok r ≡ true) × (r.state ≡ 1) }
     ensures { result ≡ record_valid r }
@@ -131,6 +117,7 @@ pub fn listed_ok(r: Record) -> bool
     listing_fits(r) & bid_is_zero(r) & (r.due == 0) & (r.owner == r.seller) & no_invoices_ok(r)
 }
 
+#[tactic(auto, using(crate::proofs::ByState::standing, crate::proofs::ByState::judged))]
 pub fn bid_stands_ok(r: Record) -> bool
     requires { (kept_ok r ≡ true) × (r.state ≡ 2) }
     ensures { result ≡ record_valid r }
@@ -139,6 +126,7 @@ pub fn bid_stands_ok(r: Record) -> bool
 }
 
 // Struck, or lodged.
+#[tactic(auto, using(crate::proofs::ByState::struck, crate::proofs::ByState::judged))]
 pub fn struck_ok(r: Record) -> bool
     requires { (kept_ok r ≡ true) × (3 ≤ r.state) × (r.state ≤ 4) }
     ensures { result ≡ record_valid r }
@@ -146,6 +134,7 @@ pub fn struck_ok(r: Record) -> bool
     listing_fits(r) & bid_fits(r) & due_fits(r) & (r.owner == r.seller) & no_invoices_ok(r)
 }
 
+#[tactic(auto, using(crate::proofs::ByState::bought, crate::proofs::ByState::judged))]
 pub fn settled_ok(r: Record) -> bool
     requires { (kept_ok r ≡ true) × (r.state ≡ 5) }
     ensures { result ≡ record_valid r }
@@ -154,16 +143,15 @@ pub fn settled_ok(r: Record) -> bool
 }
 
 // The invoices last: the full payment that they are tested against is that of a price which can be paid.
+#[tactic(auto, using(crate::proofs::ByState::bought, crate::proofs::ByState::fields_decide, crate::proofs::ByState::tests_decide), unfolding(zone::specs::Valid::invoices_ok))]
 pub fn first_paid_ok(r: Record) -> bool
     requires { (kept_ok r ≡ true) × (r.state ≡ 6) }
     ensures { result ≡ record_valid r }
 {
-    if !(listing_fits(r) & bid_fits(r) & due_fits(r) & (r.owner == r.buyer)) {
-        return false;
-    }
-    invoices_within(r)
+    (listing_fits(r) & bid_fits(r) & due_fits(r) & (r.owner == r.buyer)) && invoices_within(r)
 }
 
+#[tactic(auto, using(crate::proofs::ByState::owing, crate::proofs::ByState::judged))]
 pub fn penalty_due_ok(r: Record) -> bool
     requires { (kept_ok r ≡ true) × (r.state ≡ 7) }
     ensures { result ≡ record_valid r }
@@ -176,42 +164,37 @@ pub fn penalty_due_ok(r: Record) -> bool
         & no_invoices_ok(r)
 }
 
+#[tactic(auto, unfolding(zone::specs::Valid::ask_ok))]
 pub fn ask_ok(ask: YuanPerTonne) -> bool
     ensures { result ≡ ask_ok ask }
 {
-    units::is_ask(ask.0 as u64)
+    units::is_ask(u64::from(ask.0))
 }
 
 // ── What a lot holds ────────────────────────────────────────────────────────────────────────────
 
-// In state 6 the record has what was paid, so that nothing is divided again.
+// After the first payment the record has what was paid since, so that nothing is divided again.
+#[tactic(auto, using(crate::proofs::Money::weight_valid, crate::proofs::Money::full_valid, crate::proofs::Money::paid_valid, crate::proofs::Money::paid_as_due), unfolding(zone::specs::Held::held))]
+fn held(state: State, r: Record) -> Fen
+    requires { (record_valid r ≡ true) × (r.state ≡ state_number state) }
+    ensures { result ≡ held r }
+{
+    match state {
+        State::BidStands | State::Struck | State::Lodged => units::deposit_per_receipt(),
+        State::Settled => full_of(r),
+        State::FirstPaid => units::rest_payment(full_of(r)) - r.paid,
+        _ => Fen(0),
+    }
+}
+
+#[tactic(auto, using(zone::specs::Laws::States::is_state, crate::proofs::Money::nothing_held))]
 pub fn hold_of(r: Record) -> Hold
     requires { record_valid r ≡ true }
     ensures { result ≡ hold_of r }
 {
-    let from = r.buyer;
-    let s = r.state;
-    if (STATE_BID_STANDS <= s) & (s <= STATE_LODGED) {
-        return Hold {
-            from: from,
-            fen: units::deposit_per_receipt(),
-        };
-    }
-    if s == STATE_SETTLED {
-        return Hold {
-            from: from,
-            fen: full_of(r),
-        };
-    }
-    if s == STATE_FIRST_PAID {
-        let rest = units::rest_payment(full_of(r)).0;
-        return Hold {
-            from: from,
-            fen: Fen(rest - r.paid.0),
-        };
-    }
-    Hold {
-        from: from,
-        fen: Fen(0),
-    }
+    let fen = match State::try_from(r.state) {
+        Ok(state) => held(state, r),
+        Err(_) => Fen(0),
+    };
+    Hold { from: r.buyer, fen }
 }
