@@ -19,9 +19,13 @@ penalty_owed r = record { from = r.seller; fen = penalty }
 abbrev pub payment_owed : Record → Hold
 payment_owed r = record { from = r.buyer; fen = fen (excess (full r).0 deposit.0) }
 
--- for a lot in state 7 the one, in state 3 or 4 the other; for any other, or before it is due, nothing
+-- for a lot in state 7 the one, in state 3 or 4 the other; for any other nothing
+abbrev pub owed_when_due : Record → Hold
+owed_when_due r = cond (eqb r.state 7) (penalty_owed r) (cond (within 3 4 r.state) (payment_owed r) no_hold)
+
+-- and nothing before it is due
 unfoldable pub owed_of : ℕ → Record → Hold
-owed_of day r = cond (is_due day r) (cond (eqb r.state 7) (penalty_owed r) (cond (within 3 4 r.state) (payment_owed r) no_hold)) no_hold
+owed_of day r = cond (is_due day r) (owed_when_due r) no_hold
 
 -- a record that is not valid owes nothing; a valid image has none
 abbrev pub valid_owed : ℕ → Record → Hold

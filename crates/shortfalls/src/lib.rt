@@ -4,14 +4,15 @@
 ghost use Rattle.std.specs.Prelude.{true, false, ◌≡◌, ◌≤◌, length};
 ghost use Rattle.std.proofs.lemmas.List.Edits.{sets};
 ghost use Rattle.units.specs.Payments.{fen};
+ghost use Rattle.zone.specs.State.{state_number};
 ghost use Rattle.zone.specs.Valid.{record_valid};
 ghost use Rattle.image.specs.Image.{valid_image, decode};
 ghost use Rattle.image.specs.Layout.{afternoon_in};
 ghost use Rattle.shortfalls.specs.Shortfalls.{excess, figures_length, figure_bytes};
-ghost use Rattle.shortfalls.specs.Walk.{owed_of, owed_sums};
+ghost use Rattle.shortfalls.specs.Walk.{owed_when_due, owed_of, owed_sums};
 
 use units::{ACCOUNTS, Fen, PER_RECEIPT, RECEIPTS};
-use zone::{Hold, Record, STATE_LODGED, STATE_PENALTY_DUE, STATE_STRUCK};
+use zone::{Hold, Record, State};
 
 // ── Lengths, named as in Shortfalls ─────────────────────────────────────────────────────────────
 
@@ -21,40 +22,43 @@ pub const FIGURES_LENGTH: usize = ACCOUNTS * FIGURE_LENGTH;
 
 // ── What is owed for a lot ──────────────────────────────────────────────────────────────────────
 
+#[tactic(auto, unfolding(crate::specs::Shortfalls::excess))]
 fn excess(n: Fen, m: Fen) -> Fen
     ensures { result ≡ fen (excess n.0 m.0) }
 {
-    if m.0 < n.0 { Fen(n.0 - m.0) } else { Fen(0) }
+    Fen(n.0.saturating_sub(m.0))
 }
 
-// For a lot that is due its seller owes the penalty, or its buyer what full has above the deposit. The state comes first: it decides for most
-// lots.
+// What is owed for a lot that is due: the penalty by its seller, or by its buyer what full has above the deposit.
+fn owed_when_due(r: Record, state: State) -> Hold
+    requires { (record_valid r ≡ true) × (r.state ≡ state_number state) }
+    ensures { result ≡ owed_when_due r }
+{
+    match state {
+        State::Struck | State::Lodged => Hold {
+            from: r.buyer,
+            fen: excess(validity::full_of(r), units::deposit_per_receipt()),
+        },
+        State::PenaltyDue => Hold {
+            from: r.seller,
+            fen: Fen(PER_RECEIPT),
+        },
+        _ => verdict::no_hold(),
+    }
+}
+
+#[tactic(auto, unfolding(crate::specs::Walk::owed_of))]
 fn owed_of(r: Record, day: u16) -> Hold
     requires { record_valid r ≡ true }
     ensures { result ≡ owed_of day r }
 {
-    let seller = r.seller;
-    let buyer = r.buyer;
-    let s = r.state;
-    if s < STATE_STRUCK {
-        return verdict::no_hold();
-    }
     if day < r.due {
         return verdict::no_hold();
     }
-    if s <= STATE_LODGED {
-        return Hold {
-            from: buyer,
-            fen: excess(validity::full_of(r), units::deposit_per_receipt()),
-        };
-    }
-    if s == STATE_PENALTY_DUE {
-        return Hold {
-            from: seller,
-            fen: Fen(PER_RECEIPT),
-        };
-    }
-    verdict::no_hold()
+    let Ok(state) = State::try_from(r.state) else {
+        unreachable!()
+    };
+    owed_when_due(r, state)
 }
 
 // ── What each account owes ──────────────────────────────────────────────────────────────────────
@@ -64,16 +68,10 @@ fn owed_sums(image: &[u8], day: u16) -> [Fen; ACCOUNTS]
     requires { valid_image image.now ≡ true }
     ensures { result ≡ owed_sums day image.now }
 {
-    let mut sums: [Fen; ACCOUNTS] = [Fen(0); ACCOUNTS];
-    let mut i: usize = RECEIPTS;
-    while 0 < i {
-        i -= 1;
-        let h = owed_of(image::record_at(image, i), day);
-        let from = h.from as usize;
-        if from != 0 {
-            let place = from - 1;
-            sums[place] = verdict::plus(sums[place], h.fen);
-        }
+    let mut sums = [Fen(0); ACCOUNTS];
+    for k in (0..RECEIPTS).rev() {
+        let owed = owed_of(image::record_at(image, k), day);
+        verdict::add_hold(&mut sums, owed);
     }
     sums
 }
@@ -86,12 +84,10 @@ fn put_morning_figures(image: &[u8], figures: &mut [u8])
     ensures { figures.new ≡ sets figures.old 0 (figure_bytes (decode image.now)) }
 {
     let sums = owed_sums(image, image::day_in(image));
-    let mut i: usize = 0;
-    while i < ACCOUNTS {
+    for (i, owed) in sums.iter().enumerate() {
         let a = image::account_at(image, i);
-        let figure = excess(sums[i], a.free);
+        let figure = excess(*owed, a.free);
         wire::put_u64(figures, i * FIGURE_LENGTH, figure.0);
-        i += 1;
     }
 }
 

@@ -1,3 +1,4 @@
+pub mod States
 pub mod Bits
 pub mod Sums
 pub mod Turns

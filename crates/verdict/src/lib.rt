@@ -1,13 +1,15 @@
 // What the lots of an image hold from each account, and whether bytes are a valid image.
 #![tactic(auto)]
 
-ghost use Rattle.std.specs.Prelude.{◌≡◌, ◌+◌, ◌^◌, ◌<◌, ◌≤◌, true, ◌≢◌, length, replicate};
+ghost use Rattle.std.specs.Prelude.{◌≡◌, ◌+◌, ◌-◌, ◌^◌, ◌<◌, ◌≤◌, true, ◌≢◌, length, replicate, slice_index_or};
 ghost use Rattle.units.specs.Payments.{fen};
 ghost use Rattle.units.specs.Ranges.{receipt_count, money_limit};
+ghost use Rattle.zone.specs.State.{state_number};
 ghost use Rattle.zone.specs.Valid.{blank, record_valid, ask_ok, all};
 ghost use Rattle.image.specs.Layout.{image_length, receipt_length, header_ok, receipt_run, record_in, asks_in};
 ghost use Rattle.image.specs.Image.{valid_image};
-ghost use Rattle.verdict.specs.Sums.{no_hold, valid_hold, frozen_sums, valid_records, books_by_sums};
+ghost use Rattle.validity.specs.ByState.{kept_ok};
+ghost use Rattle.verdict.specs.Sums.{no_hold, valid_hold, add_to, frozen_sums, valid_records, books_by_sums};
 ghost use Rattle.verdict.specs.Walk.{BlankFrom, marked};
 
 use image::{
@@ -17,10 +19,7 @@ use image::{
     RECEIPT_COUNT_PLACE, RECEIPT_LENGTH, RECEIPT_START, RECEIPT_START_PLACE,
 };
 use units::{ACCOUNTS, CONTRACTS, Fen, LAST_DAY, MONEY_LIMIT, RECEIPTS};
-use zone::{
-    Hold, STATE_BID_STANDS, STATE_FIRST_PAID, STATE_IDLE, STATE_LISTED, STATE_LODGED,
-    STATE_SETTLED, STATE_STRUCK,
-};
+use zone::{Hold, State};
 
 // The zero bytes behind the phase.
 const FIRST_ZERO: usize = PHASE_PLACE + 1;
@@ -54,13 +53,7 @@ fn asks_ok(image: &[u8]) -> bool
     requires { length image.now ≡ image_length }
     ensures { result ≡ all ask_ok (asks_in image.now) }
 {
-    let mut ok = true;
-    let mut i: usize = 0;
-    while i < CONTRACTS {
-        ok = ok & validity::ask_ok(image::ask_at(image, i));
-        i += 1;
-    }
-    ok
+    (0..CONTRACTS).all(|i| validity::ask_ok(image::ask_at(image, i)))
 }
 
 // ── The records ─────────────────────────────────────────────────────────────────────────────────
@@ -90,8 +83,7 @@ fn blank_at(image: &[u8], k: usize) -> bool
     ensures { result ≡ blank (record_in (receipt_run image.now k)) }
 {
     let at = RECEIPT_START + k * RECEIPT_LENGTH;
-    let end = at + RECEIPT_LENGTH;
-    all_zero(&image[at..end])
+    all_zero(&image[at..at + RECEIPT_LENGTH])
 }
 
 // Nobody has registered a receipt from here on. Where numbers are given from the front, most of an idle zone lies there, and a loop of
@@ -100,18 +92,32 @@ fn registered_end(image: &[u8]) -> usize
     requires { length image.now ≡ image_length }
     ensures { (result ≤ receipt_count) × BlankFrom image.now result }
 {
-    let mut k: usize = RECEIPTS;
-    while 0 < k {
-        if !blank_at(image, k - 1) {
-            return k;
+    for k in (0..RECEIPTS).rev() {
+        if !blank_at(image, k) {
+            return k + 1;
         }
-        k -= 1;
     }
     0
 }
 
-// Whether the record of a registered receipt is valid. Each state reads the record anew, so that only what it tests is loaded: with the
-// whole record at hand for all states, the registers do not suffice.
+// Each state reads the record anew, so that only what it tests is loaded: with the whole record at hand for all states, the registers do
+// not suffice.
+fn state_ok(image: &[u8], k: usize, state: State) -> bool
+    requires { (length image.now ≡ image_length) × (k < receipt_count) × (kept_ok (record_in (receipt_run image.now k)) ≡ true) × ((record_in (receipt_run image.now k)).state ≡ state_number state) }
+    ensures { result ≡ record_valid (record_in (receipt_run image.now k)) }
+{
+    match state {
+        State::Idle => validity::idle_ok(image::record_at(image, k)),
+        State::Listed => validity::listed_ok(image::record_at(image, k)),
+        State::BidStands => validity::bid_stands_ok(image::record_at(image, k)),
+        State::Struck | State::Lodged => validity::struck_ok(image::record_at(image, k)),
+        State::Settled => validity::settled_ok(image::record_at(image, k)),
+        State::FirstPaid => validity::first_paid_ok(image::record_at(image, k)),
+        State::PenaltyDue => validity::penalty_due_ok(image::record_at(image, k)),
+    }
+}
+
+// Whether the record of a registered receipt is valid.
 fn registered_ok(image: &[u8], k: usize) -> bool
     requires { (length image.now ≡ image_length) × (k < receipt_count) × ((record_in (receipt_run image.now k)).owner ≢ 0) }
     ensures { result ≡ record_valid (record_in (receipt_run image.now k)) }
@@ -119,17 +125,10 @@ fn registered_ok(image: &[u8], k: usize) -> bool
     if !validity::kept_ok(image::record_at(image, k)) {
         return false;
     }
-    let s = image::state_at(image, k);
-    match s {
-        STATE_IDLE => validity::idle_ok(image::record_at(image, k)),
-        STATE_LISTED => validity::listed_ok(image::record_at(image, k)),
-        STATE_BID_STANDS => validity::bid_stands_ok(image::record_at(image, k)),
-        STATE_STRUCK => validity::struck_ok(image::record_at(image, k)),
-        STATE_LODGED => validity::struck_ok(image::record_at(image, k)),
-        STATE_SETTLED => validity::settled_ok(image::record_at(image, k)),
-        STATE_FIRST_PAID => validity::first_paid_ok(image::record_at(image, k)),
-        _ => validity::penalty_due_ok(image::record_at(image, k)),
-    }
+    let Ok(state) = State::try_from(image::state_at(image, k)) else {
+        unreachable!()
+    };
+    state_ok(image, k, state)
 }
 
 // ── What the lots hold ──────────────────────────────────────────────────────────────────────────
@@ -163,11 +162,16 @@ fn hold_at(image: &[u8], k: usize, valid: &mut [bool]) -> Hold
     validity::hold_of(image::record_at(image, k))
 }
 
-pub fn plus(sum: Fen, more: Fen) -> Fen
-    requires { sum.0 + more.0 < 2 ^ 64 }
-    ensures { result ≡ fen (sum.0 + more.0) }
+// What a lot holds goes to the sum of the account that it names; nobody, number 0, has none.
+pub fn add_hold(sums: &mut [Fen], hold: Hold)
+    requires known { hold.from ≤ length sums.old }
+    requires room { (slice_index_or sums.old (hold.from - 1) (fen 0)).0 + hold.fen.0 < 2 ^ 64 }
+    ensures { sums.new ≡ add_to hold.from hold.fen.0 sums.old }
 {
-    Fen(sum.0 + more.0)
+    let from = usize::from(hold.from);
+    if from != 0 {
+        sums[from - 1] = sums[from - 1] + hold.fen;
+    }
 }
 
 // What the lots hold from each account, in one walk from the last record to the first: what a lot holds goes to the sum of its buyer. A
@@ -176,16 +180,10 @@ pub fn frozen_sums(image: &[u8], valid: &mut [bool]) -> [Fen; ACCOUNTS]
     requires { (length image.now ≡ image_length) × (valid.old ≡ replicate receipt_count true) }
     ensures { (result ≡ frozen_sums image.now) × (valid.new ≡ valid_records image.now) }
 {
-    let mut sums: [Fen; ACCOUNTS] = [Fen(0); ACCOUNTS];
-    let mut i: usize = registered_end(image);
-    while 0 < i {
-        i -= 1;
-        let h = hold_at(image, i, valid);
-        let from = h.from as usize;
-        if from != 0 {
-            let place = from - 1;
-            sums[place] = plus(sums[place], h.fen);
-        }
+    let mut sums = [Fen(0); ACCOUNTS];
+    for k in (0..registered_end(image)).rev() {
+        let hold = hold_at(image, k, valid);
+        add_hold(&mut sums, hold);
     }
     sums
 }
@@ -193,16 +191,9 @@ pub fn frozen_sums(image: &[u8], valid: &mut [bool]) -> [Fen; ACCOUNTS]
 // ── The verdict ─────────────────────────────────────────────────────────────────────────────────
 
 fn all_set(marks: &[bool]) -> bool
-    requires { length marks.now ≡ receipt_count }
     ensures { result ≡ all (λ b. b) marks.now }
 {
-    let mut ok = true;
-    let mut i: usize = 0;
-    while i < RECEIPTS {
-        ok = ok & marks[i];
-        i += 1;
-    }
-    ok
+    marks.iter().fold(true, |ok, mark| ok & *mark)
 }
 
 // Whether the records are valid, each frozen is what the lots hold from that account, and the total is all money. The loop decides nothing,
@@ -212,7 +203,7 @@ fn books_ok(image: &[u8], total: u64) -> bool
     requires { (length image.now ≡ image_length) × (total ≤ money_limit) }
     ensures { result ≡ books_by_sums image.now total }
 {
-    let mut valid: [bool; RECEIPTS] = [true; RECEIPTS];
+    let mut valid = [true; RECEIPTS];
     let sums = frozen_sums(image, &mut valid);
     if !all_set(&valid) {
         return false;
@@ -220,14 +211,11 @@ fn books_ok(image: &[u8], total: u64) -> bool
     let mut money: u64 = 0;
     let mut free_bits: u64 = 0;
     let mut other_bits: u64 = 0;
-    let mut i: usize = 0;
-    while i < ACCOUNTS {
+    for (i, held) in sums.iter().enumerate() {
         let a = image::account_at(image, i);
-        let held = sums[i].0;
-        free_bits = free_bits | a.free.0;
-        other_bits = other_bits | (a.frozen.0 ^ held);
-        money = std::num::wrapping_add_u64(money, std::num::wrapping_add_u64(a.free.0, held));
-        i += 1;
+        free_bits |= a.free.0;
+        other_bits |= a.frozen.0 ^ held.0;
+        money = money.wrapping_add(a.free.0.wrapping_add(held.0));
     }
     (free_bits < ABOVE_LIMIT) & (other_bits == 0) & (total == money)
 }

@@ -1,4 +1,4 @@
--- The first i figures are put; the measure is the accounts that are left.
+-- The first i figures are put.
 use mathlib.Core.List.{List}
 use mathlib.Core.Path.{◌≡◌, refl, sym, ap, ◌∙◌}
 use Prim.Native.Nat.{ℕ, suc, ◌+◌, ◌*◌, ◌≤◌, ◌<◌}
@@ -24,13 +24,13 @@ owed_sums-sums-requires c = c.requires.0
 
 pub loop-i-init : goal.loop-i-init
 unfolding table_bytes
-loop-i-init c = (omega arith, refl)
+loop-i-init c = refl
 
 pub account_at-a-requires : goal.account_at-a-requires
 account_at-a-requires c = (valid_long _ c.requires.0, omega arith)
 
 pub put_u64-requires : goal.put_u64-requires
-put_u64-requires c = omega (arith, c.requires.2, simp length-sets at (ap length c.loop-i.invariant.1))
+put_u64-requires c = omega (arith, c.requires.2, simp length-sets at (ap length c.loop-i.invariant))
 
 pub loop-i-preserved : goal.loop-i-preserved
 loop-i-preserved c =
@@ -43,16 +43,14 @@ loop-i-preserved c =
     ap (λ (n : Fen). n.0) c.excess-figure.ensures
     ∙ rw (c.owed_sums-sums.ensures, c.day_in.ensures, c.account_at-a.ensures) (sym (morning_figure s c.requires.0 c.requires.1 l.i (omega arith)))
     ∙ sym (get_d_table account_count (λ k. shortfall (decode s) (suc k)) l.i 0 (omega arith)) in
-    let place : 0 + l.i * figure_length ≡ l.i * figure_length = omega arith in (
-      omega arith,
-      c.put_u64.ensures
-          ∙ ap (λ (b : List ℕ). sets b (l.i * figure_length) (le_bytes figure_length c.excess-figure.result.0)) l.invariant.1
-          ∙ ap (λ (n : ℕ). sets (sets old 0 (table_bytes (le_bytes figure_length) (take l.i all))) (l.i * figure_length) (le_bytes figure_length n)) f
-          ∙ (rw place at (put_more (le_bytes figure_length) figure_length figure_wide old 0 all l.i 0 h)),
-    )
+    let place : 0 + l.i * figure_length ≡ l.i * figure_length = omega arith in
+    c.put_u64.ensures
+    ∙ ap (λ (b : List ℕ). sets b (l.i * figure_length) (le_bytes figure_length c.excess-figure.result.0)) l.invariant
+    ∙ ap (λ (n : ℕ). sets (sets old 0 (table_bytes (le_bytes figure_length) (take l.i all))) (l.i * figure_length) (le_bytes figure_length n)) f
+    ∙ (rw place at (put_more (le_bytes figure_length) figure_length figure_wide old 0 all l.i 0 h))
 
 pub shape_of-figures : goal.shape_of-figures
-shape_of-figures c = ap length c.loop-i.invariant.1 ∙ simp length-sets
+shape_of-figures c = ap length c.loop-i.invariant ∙ simp length-sets
 
 pub returns : goal.returns
 unfolding figure_bytes
@@ -60,4 +58,4 @@ returns c =
     let s = c.args.image.now in
     let all = figures_of (decode s) in
     let n : length all ≤ c.loop-i.i = omega (arith, length_table account_count (λ k. shortfall (decode s) (suc k))) in
-    c.loop-i.invariant.1 ∙ rw (take_all c.loop-i.i all n)
+    c.loop-i.invariant ∙ rw (take_all c.loop-i.i all n)

@@ -1,4 +1,4 @@
--- The bits and the money of the first i accounts are gathered, in 64 bits; the measure is the accounts that are left.
+-- The bits and the money of the first i accounts are gathered, in 64 bits.
 use Rattle.std.proofs.Common.{◌≡◌, true, length, sym, refl, ap, ◌∙◌, arith}
 use lib.ListN.{length-map}
 use Rattle.units.specs.Ranges.{account_count, receipt_count}
@@ -26,9 +26,6 @@ marks_count c = ap length c.frozen_sums-sums.ensures.1 ∙ length-map (records_i
 pub slice_bounds-all_set-end : goal.slice_bounds-all_set-end
 slice_bounds-all_set-end c = sym (marks_count (goal.at.slice_bounds-all_set-end c).After-frozen_sums-sums)
 
-pub all_set-requires : goal.all_set-requires
-all_set-requires c = marks_count (goal.at.all_set-requires c).After-frozen_sums-sums
-
 -- the marks tell whether all records are valid
 told : (c : After-all_set) → c.all_set.result ≡ all record_valid (records_in c.args.image.now)
 told c = c.all_set.ensures ∙ ap (all (λ b. b)) c.frozen_sums-sums.ensures.1 ∙ all_marked _
@@ -38,26 +35,25 @@ returns-then-not-all_set c = rw (sym (told (goal.at.returns-then-not-all_set c).
 
 pub loop-i-init : goal.loop-i-init
 unfolding free_bits other_bits wrapped
-loop-i-init c = (omega arith, refl, refl, refl)
+loop-i-init c = record { free = refl; other = refl; all = refl }
 
 pub loop-i-preserved : goal.loop-i-preserved
 loop-i-preserved c =
     let f = account_of c.args.image.now in
-    let sums = c.frozen_sums-sums.result in
     let l = c.loop-i in
-    let a = c.account_at-a.ensures in (
-      omega arith,
-      rw (l.invariant.1, a) (sym (free_more f l.i)),
-      rw (l.invariant.2, a) (sym (other_more f sums l.i)),
-      rw (c.wrapping_add_u64-money.ensures.value, c.wrapping_add_u64.ensures.value, l.invariant.3, a) (sym (wrapped_more f sums l.i)),
-    )
+    let a = c.account_at-a.ensures in
+    record {
+      free = rw (l.invariant.free, a) (sym (free_more f l.i));
+      other = rw (l.invariant.other, a) (sym (other_more f _ l.i));
+      all = rw (l.invariant.all, a) (sym (wrapped_more f _ l.i));
+    }
 
 pub returns : goal.returns
 unfolding accounts_in
 returns c =
     let s = c.args.image.now in
     let l = c.loop-i in
-    let e : l.i ≡ account_count = omega arith in
+    let e : l.i ≡ account_count = omega (arith, c.loop-i-test.false, l.auto.i-end) in
     let valid : all record_valid (records_in s) ≡ true = sym (told (goal.at.returns c).After-all_set) ∙ c.if-not-all_set.false in
-    rw (l.invariant.1, l.invariant.2, l.invariant.3, valid, c.frozen_sums-sums.ensures.0, e)
+    rw (l.invariant.free, l.invariant.other, l.invariant.all, valid, c.frozen_sums-sums.ensures.0, e)
     (bits_decide (account_of s) (frozen_sums s) (sum_small s) c.args.total c.requires.1 account_count (omega arith))

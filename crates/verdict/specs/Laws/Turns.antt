@@ -1,8 +1,9 @@
 -- One turn of each of the loops that read an image: a test of all, sums, and the frozen test, with one element more at the end.
 -- Assumes nothing.
 use Rattle.std.specs.Prelude.{◌≡◌, ℕ, suc, ◌+◌, Bool, ◌&&◌, List, [], ◌∷◌, ◌++◌, length, ◌==◌, slice_index_or}
+use Rattle.std.specs.List.{fold}
 use Rattle.std.proofs.Math.Bool.{and-true, and_assoc}
-use Rattle.std.proofs.Common.{arith}
+use Rattle.std.proofs.Common.{sym, arith}
 use Rattle.units.specs.declared.Fen.{Fen}
 use Rattle.units.specs.Payments.{fen}
 use Rattle.zone.specs.declared.Account.{Account}
@@ -10,11 +11,10 @@ use Rattle.zone.specs.Held.{all_money}
 use Rattle.zone.specs.Valid.{all}
 use Rattle.verdict.specs.Sums.{frozen_from}
 
-module _ {A : Type 0} (p : A → Bool) where
-  pub all_one : (l : List A) (x : A) → all p (l ++ (x ∷ [])) ≡ all p l && p x
-  unfolding all
-  all_one [] x = and-true (p x)
-  all_one (y ∷ l) x = rw (all_one l x, and_assoc)
+pub all_folded : (ok : Bool) (marks : List Bool) → fold (λ ok mark. ok && mark) ok marks ≡ ok && all (λ b. b) marks
+unfolding all
+all_folded ok [] = sym (and-true ok)
+all_folded ok (mark ∷ marks) = rw (all_folded (ok && mark) marks, and_assoc)
 
 pub money_one : (l : List Account) (a : Account) → all_money (l ++ (a ∷ [])) ≡ all_money l + a.free.0 + a.frozen.0
 unfolding all_money
