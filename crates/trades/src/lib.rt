@@ -67,7 +67,6 @@ fn confirmed_lot(f: Record, full: Fen, part: Fen) -> Lot
     Lot::FirstPaid(zone::trade_of(f), invoices)
 }
 
-#[tactic(auto, using(crate::proofs::Fits::valid_weight))]
 pub fn confirm_at(n: u8, f: Record) -> Event
     requires { (record_valid f ≡ true) × (f.state ≡ 6) × (0 < f.pending.0) }
     ensures { Some result ≡ confirm n f }

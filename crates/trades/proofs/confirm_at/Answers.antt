@@ -1,11 +1,12 @@
 -- A valid record in state 6 gives what `part_payment` asks and that the sums fit.
--- `returns` is written out for the edits that bring a `part_payment` of their own: they are refused there, and not here too.
+-- Every goal is written out, for the edits that bring a `part_payment` of their own: they are refused there, and not here too.
 use mathlib.Core.Path.{◌≡◌}
 use native.Mathlib.Omega.{arith}
 use Rattle.units.specs.Payments.{part_payment}
 use Rattle.zone.specs.Held.{full}
 use Rattle.rules.specs.Effects.{confirm}
 use Rattle.rules.specs.Laws.Receipts.{PartPaid, part_paid}
+use Rattle.trades.proofs.Fits.{valid_weight}
 use Rattle.trades.proofs.confirm_at.Goals as goal
 use Rattle.trades.proofs.confirm_at.Goals.{Start, After-part_payment-part}
 
@@ -18,6 +19,9 @@ part_here : (c : After-part_payment-part) →
     let f = c.args.f in
     c.part_payment-part.result.0 ≡ (part_payment (full f) f.confirmed f.paid f.pending).0
 part_here c = rw (c.part_payment-part.ensures, c.full_of-full.ensures)
+
+pub full_of-full-requires : goal.full_of-full-requires
+full_of-full-requires c = valid_weight c.args.f c.requires.0
 
 pub part_payment-part-requires : goal.part_payment-part-requires
 part_payment-part-requires c =
