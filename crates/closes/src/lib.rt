@@ -160,12 +160,12 @@ pub fn end_offer(image: &mut [u8], n: u8) -> Option<Entry>
     let Ok(state) = State::try_from(f.state) else {
         return None;
     };
-    let held = match state {
+    let frozen = match state {
         State::Listed => Fen(0),
         State::BidStands => units::deposit_per_receipt(),
         _ => return None,
     };
     put::receipt_record(image, k, idle_record(f));
-    events::money::release_to(image, f.buyer, held);
+    events::money::release_to(image, f.buyer, frozen);
     Some(rules::by_owner(n, Outcome::Ended, f.seller))
 }

@@ -1,17 +1,18 @@
 // A call at one lot of an image: what its rule reads, and what it does there.
 #![tactic(auto)]
 
-ghost use Rattle.std.specs.Prelude.{true, ◌≡◌, ◌≤◌, ◌<◌, length, MatchOption};
+ghost use Rattle.std.specs.Prelude.{true, ◌≡◌, ◌≤◌, ◌<◌, length};
 ghost use Rattle.units.specs.Ranges.{contract_count, receipt_count};
 ghost use Rattle.zone.specs.Valid.{record_valid, valid_zone};
 ghost use Rattle.image.specs.Image.{valid_image, decode, Encoded, Fits};
 ghost use Rattle.image.specs.Layout.{image_length, record_in, receipt_run};
 ghost use Rattle.rules.specs.Effects.{sweeps};
 ghost use Rattle.rules.specs.Kinds.{kind_number};
+ghost use Rattle.rules.specs.Steps.{step_on, told};
 ghost use Rattle.rules.specs.View.{view_of, record_of_receipt, ask_of, free_of};
-ghost use Rattle.lots.specs.Concerned.{concerned, PassedOver, FirstFrom};
+ghost use Rattle.lots.specs.Concerned.{concerned, FirstFrom};
 
-use rules::{Call, FreeMoney, Kind, View};
+use rules::{Call, Event, FreeMoney, Kind, Refusal, View};
 use units::{Fen, Kilograms, Premium, RECEIPTS, YuanPerTonne};
 use zone::{Lot, Receipt, Record, State};
 
@@ -70,6 +71,16 @@ pub fn view_of(image: &[u8], a: u8, f: Record) -> View
         },
         total: image::total_in(image),
     }
+}
+
+// ── The outcome of a call at the receipt that it names ──────────────────────────────────────────
+
+pub fn step_of(image: &[u8], c: Call) -> Result<Option<Event>, Refusal>
+    requires { valid_image image.now ≡ true }
+    ensures { told result ≡ step_on (decode image.now) c }
+{
+    let f = record_of_receipt(image, c.receipt);
+    steps::step_at(view_of(image, c.account, f), c, f)
 }
 
 // ── A lot that a call through all lots comes by ─────────────────────────────────────────────────

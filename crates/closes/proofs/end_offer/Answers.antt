@@ -22,16 +22,16 @@ pub record_at-f-requires : goal.record_at-f-requires
 record_at-f-requires c = (same_long _ c.requires.encoded, omega (arith, c.requires.high))
 
 -- with no bid nothing was held, with one the deposit
-offer : (c : Joined-state) → Offer c.record_at-f.result c.match-state.held
+offer : (c : Joined-state) → Offer c.record_at-f.result c.match-state.frozen
 offer c =
     let number : c.record_at-f.result.state ≡ state_number c.in-Ok.state = is_state _ _ (sym c.try_from.ensures ∙ c.in-Ok.is) in
     elim c.match-state.branch [
-      | in-Listed w ↦ rw w.held-is (listed_offer (number ∙ ap state_number w.in-Listed.is))
-      | in-BidStands w ↦ bid_offer (number ∙ ap state_number w.in-BidStands.is) (w.held-is ∙ w.deposit_per_receipt-held.ensures)
+      | in-Listed w ↦ rw w.frozen-is (listed_offer (number ∙ ap state_number w.in-Listed.is))
+      | in-BidStands w ↦ bid_offer (number ∙ ap state_number w.in-BidStands.is) (w.frozen-is ∙ w.deposit_per_receipt-frozen.ensures)
     ]
 
-begun : (c : After-receipt_record) → c.record_at-f.result ≡ record_of_receipt (decode c.args.image.now) c.args.n → Offer c.record_at-f.result c.match-state.held
-    → Begun c.args.image.now c.receipt_record.new.image (entry_of c.args.n 3 c.record_at-f.result.seller c.record_at-f.result.buyer 0) (with_lot c.record_at-f.result Idle) (hold_from c.record_at-f.result.buyer c.match-state.held) (fen 0) (hold_from 0 (fen 0))
+begun : (c : After-receipt_record) → c.record_at-f.result ≡ record_of_receipt (decode c.args.image.now) c.args.n → Offer c.record_at-f.result c.match-state.frozen
+    → Begun c.args.image.now c.receipt_record.new.image (entry_of c.args.n 3 c.record_at-f.result.seller c.record_at-f.result.buyer 0) (with_lot c.record_at-f.result Idle) (hold_from c.record_at-f.result.buyer c.match-state.frozen) (fen 0) (hold_from 0 (fen 0))
 begun c r o = offer_begun c.args.n c.args.image.now r c.requires (rw c.from-k.ensures at c.receipt_record.ensures) c.idle_record.ensures o
 
 pub returns-in_default : goal.returns-in_default
@@ -55,7 +55,7 @@ returns c =
     let o = offer (goal.at.returns c).Joined-state in
     let B = begun (goal.at.returns c).After-receipt_record r o in
     λ call kind. worked call c.args.n c.args.image.now (ends c.args.n c.args.image.now r call kind o.state)
-    (ended B (release f.buyer c.match-state.held) (only_released (hold_from f.buyer c.match-state.held) f.seller 0 0) c.release_to.ensures)
+    (ended B (release f.buyer c.match-state.frozen) (only_released (hold_from f.buyer c.match-state.frozen) f.seller 0 0) c.release_to.ensures)
     c.by_owner.ensures
 
 pub returns-in_default-state : goal.returns-in_default-state
