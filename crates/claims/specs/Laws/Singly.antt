@@ -16,7 +16,6 @@ use Rattle.rules.specs.Effects.{effect}
 use Rattle.rules.specs.Events.{Done}
 use Rattle.rules.specs.Steps.{step_on, step_number, number_on}
 use Rattle.image.specs.Image.{valid_image, decode, encode}
-use Rattle.image.specs.Laws.Table.{length_table}
 use Rattle.image.specs.Table.{table, run_at}
 use Rattle.answers.specs.Buffers.{call_length, call_in, call_count, call_records, answer_length, answer_number_place, header_of, accepted_bytes, accepted_answer, refused_answer, padded}
 use Rattle.answers.specs.Laws.Answer.{padded_long, accepted_long}

@@ -1,4 +1,4 @@
-use Rattle.std.proofs.Common.{true, ◌≡◌, ℕ, List, length, sym, ap, ◌∙◌, le-ltb}
+use Rattle.std.proofs.Common.{true, ◌≡◌, ℕ, List, sym, ap, ◌∙◌, le-ltb}
 use Rattle.image.specs.Image.{valid_image, decode}
 use Rattle.shortfalls.specs.Laws.Figures.{figures_put}
 use Rattle.crz.specs.Figures.{shortfalls_entry}
