@@ -1,9 +1,11 @@
 -- What a call returns, and leaves in the image and in the answer (01 Answers): all three are functions of the three buffers, in every case
 -- (02 1/12).
 -- Assumes nothing.
-use Rattle.std.specs.Prelude.{not, cond, List, ◌≡◌, ℕ, zero, suc, eqb, ltb, length}
+use Rattle.std.specs.Prelude.{not, cond, List, Result, Ok, Err, ◌≡◌, ℕ, zero, suc, eqb, ltb, length}
 use Rattle.rules.specs.declared.Call.{Call}
+use Rattle.rules.specs.declared.Refusal.{Refusal}
 use Rattle.rules.specs.Effects.{effect}
+use Rattle.rules.specs.Kinds.{refusal_number}
 use Rattle.rules.specs.Steps.{number_on}
 use Rattle.image.specs.Image.{valid_image, decode, encode}
 use Rattle.answers.specs.Buffers.{call_length, call_in, answer_length, refused_answer, accepted_answer}
@@ -29,6 +31,11 @@ record_number image call answer =
 -- in the answer of a refusal (01 Answers 12, 25): by 1 nothing is written, by any other the number stands before zeros
 unfoldable pub refusal : ℕ → List ℕ → List ℕ
 refusal n answer = cond (eqb n 1) answer (refused_answer n answer)
+
+-- in an answer of zeros, by what a call over it has come to: a refusal's number stands before them
+abbrev pub answered : Result (Unit {0}) Refusal → List ℕ → List ℕ
+answered (Ok _) answer = answer
+answered (Err r) answer = refused_answer (refusal_number r) answer
 
 -- the number returned, and image and answer on return
 abbrev pub Return : Type 0

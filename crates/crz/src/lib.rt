@@ -1,16 +1,17 @@
 // The entries that a C host calls.
 #![tactic(auto)]
 
-ghost use Rattle.std.specs.Prelude.{true, ◌≡◌, ◌*◌, ◌≤◌, length, take};
+ghost use Rattle.std.specs.Prelude.{true, ◌≡◌, ◌*◌, ◌≤◌, length};
+ghost use Rattle.std.specs.Result.{OnErr};
 ghost use Rattle.image.specs.Image.{valid_image, decode, encode};
-ghost use Rattle.rules.specs.declared.Step.TheVariants.{Accepted};
 ghost use Rattle.rules.specs.Effects.{effect};
-ghost use Rattle.rules.specs.Steps.{step_on};
-ghost use Rattle.answers.specs.Buffers.{most_calls, answer_length, accepted_answer, cleared};
+ghost use Rattle.rules.specs.Kinds.{returned};
+ghost use Rattle.rules.specs.Steps.{step_on, Accepted};
+ghost use Rattle.answers.specs.Buffers.{answer_length, accepted_answer, cleared};
 ghost use Rattle.crz.specs.CallTable.{in_turn, table_fits, table_entry};
 ghost use Rattle.crz.specs.Figures.{shortfalls_entry};
 ghost use Rattle.crz.specs.Fresh.{fresh_entry};
-ghost use Rattle.crz.specs.Returned.{call_with, call_entry};
+ghost use Rattle.crz.specs.Returned.{answered, call_with, call_entry};
 
 use answers::{ANSWER_LENGTH, CALL_LENGTH, MOST_CALLS};
 use image::IMAGE_LENGTH;
@@ -38,12 +39,14 @@ fn carry_out(image: &mut [u8], answer: &mut [u8], c: Call, at: Option<Event>)
     answers::put_header(answer, image, count);
 }
 
-// A call with an answer of zeros: carried out, or refused with both buffers as they were.
+// Carries a call out, or refuses it with the image as it was and zeros in the answer.
 fn carry(image: &mut [u8], valid: bool, c: Call, answer: &mut [u8]) -> Result<(), Refusal>
     requires verdict { valid ≡ valid_image image.old }
-    requires zeros { (answer_length ≤ length answer.old) × (cleared answer.old ≡ answer.old) }
-    ensures { MatchResult result (λ _. Carried image.old c answer.old image.new answer.new) (λ refusal. Kept image.old c (refusal_number refusal) × (image.new ≡ image.old) × (answer.new ≡ answer.old)) }
+    requires long { answer_length ≤ length answer.old }
+    ensures left { (returned result, image.new, answered result answer.new) ≡ call_with image.old c answer.old }
+    ensures zeros { OnErr result (answer.new ≡ cleared answer.old) }
 {
+    answers::clear(answer);
     if !valid {
         return Err(Refusal::BadImage);
     }
@@ -60,7 +63,6 @@ pub fn make_call(image: &mut [u8], valid: bool, c: Call, answer: &mut [u8]) -> u
     if answer.len() < ANSWER_LENGTH {
         return Refusal::ShortAnswer as u32;
     }
-    answers::clear(answer);
     match carry(image, valid, c, answer) {
         Ok(()) => 0,
         Err(refusal) => answers::refuse(answer, refusal),
@@ -68,6 +70,7 @@ pub fn make_call(image: &mut [u8], valid: bool, c: Call, answer: &mut [u8]) -> u
 }
 
 // Makes a call on an image. Returns 0 and writes image and answer, or a refusal's number: 1 writes nothing, any other fills the answer.
+#[tactic(auto, using(crate::specs::Laws::Returned::record_call))]
 pub fn crz_call(image: &mut [u8], call: &[u8], answer: &mut [u8]) -> u32
     ensures { (result, image.new, answer.new) ≡ call_entry image.old call.now answer.old }
 {
@@ -89,6 +92,7 @@ fn make_calls(image: &mut [u8], valid: bool, calls: &[Call], answers: &mut [u8])
 }
 
 // Whether a table of so many bytes is taken, with answers of so many.
+#[tactic(auto, unfolding(crate::specs::CallTable::table_fits), using(crate::specs::Laws::CallTable::room_for))]
 fn table_fits(calls: usize, answers: usize) -> bool
     ensures { result ≡ table_fits calls answers }
 {
@@ -104,7 +108,8 @@ fn make_table(image: &mut [u8], calls: &[u8], answers: &mut [u8]) -> Result<(), 
     }
     let valid = verdict::image_ok(image);
     let count = calls.len() / CALL_LENGTH;
-    make_calls(image, valid, &answers::read_calls(calls)[..count], answers);
+    let table = answers::read_calls(calls);
+    make_calls(image, valid, &table[..count], answers);
     Ok(())
 }
 
@@ -118,6 +123,7 @@ pub fn crz_table(image: &mut [u8], calls: &[u8], answers: &mut [u8]) -> u32
 
 // ── Shortfalls ──────────────────────────────────────────────────────────────────────────────────
 
+#[tactic(auto, unfolding(crate::specs::Figures::shortfalls_entry))]
 fn write_figures(image: &[u8], figures: &mut [u8]) -> Result<(), Refusal>
     ensures { (returned result, image.now, figures.new) ≡ shortfalls_entry image.now figures.old }
 {
@@ -141,6 +147,7 @@ pub fn crz_shortfalls(image: &[u8], figures: &mut [u8]) -> u32
 
 // ── A fresh image ───────────────────────────────────────────────────────────────────────────────
 
+#[tactic(auto, unfolding(crate::specs::Fresh::fresh_entry))]
 fn write_fresh(image: &mut [u8]) -> Result<(), Refusal>
     ensures { (returned result, image.new) ≡ fresh_entry image.old }
 {

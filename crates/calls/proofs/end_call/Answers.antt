@@ -10,9 +10,6 @@ use Rattle.events.specs.Laws.Moved.{encoded}
 use Rattle.calls.specs.Laws.Good.{cleared}
 use Rattle.calls.proofs.end_call.Goals as goal
 
-pub day_in-day-requires : goal.day_in-day-requires
-day_in-day-requires c = same_long _ c.requires.0
-
 pub overflow_add-day : goal.overflow_add-day
 unfolding decode
 overflow_add-day c =

@@ -68,9 +68,6 @@ ask_in n h = go (eqb n 0) refl h
     go true e h = omega (arith, eqb-true n 0 e)
     go false e h = price_at_most n h
 
-pub total_in-total-requires : goal.total_in-total-requires
-total_in-total-requires c = same_long _ c.requires.0
-
 pub credit_to-requires : goal.credit_to-requires
 credit_to-requires c = let M = paid_in (goal.at.credit_to-requires c).In-PayIn in (c.requires.0, valid_fits _ c.requires.1, M.account.high, (λ _. omega (arith, M.amount)))
 

@@ -21,7 +21,7 @@ use Rattle.zone.specs.Record.{record_of, trade_of}
 use Rattle.zone.specs.Valid.{no_receipt}
 use Rattle.rules.specs.AtLot.{AtLot}
 use Rattle.rules.specs.AtLot.{one_event}
-use Rattle.std.specs.Prelude.{Option, Some, None}
+use Rattle.std.specs.Prelude.{Some, None}
 use Rattle.rules.specs.declared.Call.{Call}
 use Rattle.rules.specs.declared.Entry.{Entry}
 use Rattle.rules.specs.Effects.{entry_of, owned_by, event_of, has_money, close_lot, rule_of, rule_at}
@@ -240,7 +240,9 @@ module _ (x : ℕ) (px : 0 < x) where
             → ((y : Zone) → Good y → owed_from y.day x more (suc n) y.receipts ≤ (free_of y.accounts x).0 → NoDefaultOf x (sweep (rule_at c) more (suc n) y).entries)
             → NoDefaultOf x ((after_lot z s).entries ++ (sweep (rule_at c) more (suc n) (after_lot z s).zone).entries)
         go None q g = g z G (omega arith)
-        go (one_event e r) q g =
+        go (Some event) q g =
+            let e : Entry = event.entry in
+            let r : Receipt = event.receipt in
             let L : Linked c n z n e r = linked n e r a (omega arith) (omega arith) (close_visits c k z n) q G in
             let B : TakesAtMost z.day x (free_of z.accounts x).0 (record_of_receipt z n) e r = on_event (close_takes z c n x (record_of_receipt z n)) (sym (close_rule c k z n) ∙ q) in
             (B.no_default (omega arith), g (posted z e r) L.next (still_covered more L B h))
@@ -435,7 +437,9 @@ module _ (x k : ℕ) (px : 0 < x) where
         go : n ≢ k → (s : AtLot) → rule_at c z n ≡ s → ((y : Zone) → Good y → Short (suc n) y → DefaultOf x k (sweep (rule_at c) more (suc n) y).entries)
             → DefaultOf x k ((after_lot z s).entries ++ (sweep (rule_at c) more (suc n) (after_lot z s).zone).entries)
         go o None q g = g z G (passed_over S)
-        go o (one_event e r) q g =
+        go o (Some event) q g =
+            let e : Entry = event.entry in
+            let r : Receipt = event.receipt in
             let L : Linked c n z n e r = linked n e r a (omega arith) (omega arith) (close_visits c kind z n) q G in
             let E : FreeKept x (record_of_receipt z n) e r = on_event (close_free_kept z c n x (record_of_receipt z n) (S.others n (omega arith) (omega arith) o)) (sym (close_rule c kind z n) ∙ q) in
             later (g (posted z e r) L.next (still_short L o E S))

@@ -16,12 +16,11 @@ use Rattle.rules.specs.Effects.{effect}
 use Rattle.rules.specs.Events.{Done}
 use Rattle.rules.specs.Steps.{step_on, step_number, number_on}
 use Rattle.image.specs.Image.{valid_image, decode, encode}
-use Rattle.image.specs.Laws.Table.{length_table}
 use Rattle.image.specs.Table.{table, run_at}
 use Rattle.answers.specs.Buffers.{call_length, call_in, call_count, call_records, answer_length, answer_number_place, header_of, accepted_bytes, accepted_answer, refused_answer, padded}
 use Rattle.answers.specs.Laws.Answer.{padded_long, accepted_long}
 use Rattle.crz.specs.CallTable.{in_turn, table_fits, table_entry}
-use Rattle.crz.specs.Laws.CallTable.{fitting, Taken, table_taken, table_left}
+use Rattle.crz.specs.Laws.CallTable.{fitting, records_long, Taken, table_taken, table_left}
 use Rattle.crz.specs.Laws.Figures.{image_left}
 use Rattle.crz.specs.Laws.Numbers.{refused_by}
 use Rattle.crz.specs.Laws.Returned.{Left, refused, accepted, returned_case}
@@ -153,11 +152,6 @@ calls_made {start} {list} (call ∷ calls) {image} answers h m =
       drop_at r.2 rest.1 answer_length long,
       number_first image call own r.0 r.1 r.2 refl (omega (arith, own_long (length calls) answers h)),
     ) (calls_made {list = record { call = call; number = r.0; answer = r.2 } ∷ list} calls (drop answer_length answers) (room_behind (length calls) answers h) (then m call own r.0 r.1 r.2 refl))
-
--- a table's records are as many as its lengths say
-records_long : (calls : List ℕ) → length (call_records calls) ≡ call_count calls
-unfolding call_records
-records_long calls = length_table (call_count calls) _
 
 table_room : (image calls answers image' answers' : List ℕ) → Taken image calls answers image' answers' → length (call_records calls) * answer_length ≤ length answers
 table_room image calls answers image' answers' T = rw (records_long calls) (fitting (length calls) (length answers) T.fits).room

@@ -23,12 +23,6 @@ today c = c.day_in.ensures
 due : (c : Else-day_in-f) → Due c.args.n c.args.image.now c.record_at-f.result
 due c = record { at = c.requires; read = read c.before.before.before; day = omega (arith, today c.before.before, c.if-day_in-f.false) }
 
-pub record_at-f-requires : goal.record_at-f-requires
-record_at-f-requires c = (same_long _ c.requires.encoded, omega (arith, c.requires.high))
-
-pub day_in-requires : goal.day_in-requires
-day_in-requires c = same_long _ c.requires.encoded
-
 pub returns-then-day_in-f : goal.returns-then-day_in-f
 returns-then-day_in-f c =
     let early : (decode c.args.image.now).day < c.record_at-f.result.due = omega (arith, today (goal.at.returns-then-day_in-f c).After-day_in, c.if-day_in-f.true) in

@@ -30,12 +30,6 @@ taken c =
     let B = begun c.before.before.before.before in
     debited _ B.fits B.funds (nothing_freed B) c.debit_from.ensures
 
-pub free_of-requires : goal.free_of-requires
-free_of-requires c = same_long _ c.requires.0.at.encoded
-
-pub receipt_record-requires : goal.receipt_record-requires
-receipt_record-requires c = (c.requires.0.at.encoded, omega (arith, c.requires.0.at.high), record_kept _ c.idle_record.ensures)
-
 pub debit_from-requires : goal.debit_from-requires
 debit_from-requires c =
     let B = begun (goal.at.debit_from-requires c).After-receipt_record in

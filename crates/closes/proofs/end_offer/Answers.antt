@@ -18,9 +18,6 @@ use Rattle.closes.proofs.end_offer.Goals.{After-record_at-f, After-receipt_recor
 read : (c : After-record_at-f) → c.record_at-f.result ≡ record_of_receipt (decode c.args.image.now) c.args.n
 read c = c.record_at-f.ensures ∙ rw c.from-k.ensures (record_in_place _ c.requires.encoded (valid_fits _ c.requires.valid) c.args.n c.requires.low c.requires.high)
 
-pub record_at-f-requires : goal.record_at-f-requires
-record_at-f-requires c = (same_long _ c.requires.encoded, omega (arith, c.requires.high))
-
 -- with no bid nothing was held, with one the deposit
 offer : (c : Joined-state) → Offer c.record_at-f.result c.match-state.frozen
 offer c =
@@ -39,9 +36,6 @@ returns-in_default c =
     λ call kind. idle_worked call c.args.n c.args.image.now c.requires.encoded
     (no_offer c.args.n c.args.image.now (read (goal.at.returns-in_default c).After-record_at-f) call kind
     (other_state Listed c.try_from.ensures (c.in_default.not-Ok _)) (other_state BidStands c.try_from.ensures (c.in_default.not-Ok _)))
-
-pub receipt_record-requires : goal.receipt_record-requires
-receipt_record-requires c = (c.requires.encoded, omega (arith, c.requires.high), record_kept _ c.idle_record.ensures)
 
 pub release_to-requires : goal.release_to-requires
 release_to-requires c =

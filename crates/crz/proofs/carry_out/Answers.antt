@@ -1,6 +1,6 @@
 -- The entries over zeros, and the header in front of them. The call leaves a good zone, so that its image gives back phase and total.
 use mathlib.Core.List.{List}
-use mathlib.Core.Path.{refl, sym, ap, ◌∙◌}
+use mathlib.Core.Path.{sym, ap, ◌∙◌}
 use Prim.Native.Nat.{ℕ}
 use native.Mathlib.Omega.{arith}
 use lib.ListN.{length}
@@ -39,7 +39,6 @@ returns c =
     let e = c.perform-count.ensures in
     let d = effect (decode c.args.image.now) c.args.c in
     let answer = c.args.answer.now in (
-      refl,
       e.0,
       c.put_header.ensures
           ∙ ap (λ (z : Zone). sets c.perform-count.new.answer 0 (header_of z.afternoon c.perform-count.result z.total.0)) (bytes_of _ d.zone e.0 (good (goal.at.returns c).Start)).zone

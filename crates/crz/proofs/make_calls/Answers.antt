@@ -13,14 +13,12 @@ loop-i-preserved c =
     let room : l.i * answer_length + answer_length ≤ length l.answers = omega arith in
     let left : answer_length ≤ length ahead = simp length-drop (omega arith) in
     let own : length c.make_call.new.answer ≡ answer_length = (rw part at c.make_call.auto.answer) ∙ length-take-le answer_length ahead left in
-    let next : suc l.i ≡ l.i + 1 = omega arith in (
-      omega arith,
-      rw (part, ← next)
-          (one_made s.calls.now s.image.now s.answers.now l.i c.loop-i-test.true room l.invariant.1 own (rw part at c.make_call.ensures)),
-    )
+    let next : suc l.i ≡ l.i + 1 = omega arith in
+    rw (part, ← next)
+    (one_made s.calls.now s.image.now s.answers.now l.i c.loop-i-test.true room l.invariant own (rw part at c.make_call.ensures))
 
 pub returns : goal.returns
 returns c =
     let s = c.args in
     let e : c.loop-i.i ≡ length s.calls.now = omega arith in
-    all_made s.calls.now s.image.now s.answers.now (rw e at c.loop-i.invariant.1)
+    all_made s.calls.now s.image.now s.answers.now (rw e at c.loop-i.invariant)

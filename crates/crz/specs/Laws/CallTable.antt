@@ -8,10 +8,12 @@ use Rattle.std.proofs.Common.{◌∙◌, le-div_iff_mul-le, div-add-mod', arith,
 use Prim.Native.Nat.{ℕ, suc, ◌+◌, ◌*◌, ◌/◌, ◌%◌, ◌≤◌, ◌<◌}
 use Rattle.std.proofs.Math.ListN.{length, take, drop, length-append}
 use Rattle.std.proofs.Math.Seq.{drop-length, take_at, drop_at, length-take-le}
+use Rattle.std.proofs.lemmas.List.{length-map}
 use Rattle.zone.specs.Laws.Tests.{both}
+use Rattle.image.specs.Laws.Table.{length_table}
 use Rattle.rules.specs.declared.Call.{Call}
 use Rattle.image.specs.Image.{valid_image}
-use Rattle.answers.specs.Buffers.{call_length, most_calls, answer_length, no_call, call_or_none, call_records}
+use Rattle.answers.specs.Buffers.{call_length, most_calls, answer_length, no_call, call_or_none, call_count, call_records}
 use Rattle.crz.specs.CallTable.{in_turn, table_fits, table_entry, TableReturned}
 use Rattle.crz.specs.Returned.{Return, call_with, call_entry}
 use Rattle.crz.specs.Laws.Returned.{record_call}
@@ -28,6 +30,16 @@ room_for n k a some = go (leb n (a / k)) (leb (n * k) a) refl refl
     go true false p q = absurd (omega (arith, (le-div_iff_mul-le some).0 (leb-true n (a / k) p), leb-false (n * k) a q))
     go false true p q = absurd (omega (arith, (le-div_iff_mul-le some).1 (leb-true (n * k) a q), leb-false n (a / k) p))
     go false false p q = refl
+
+-- a record for each call
+pub records_long : (calls : List ℕ) → length (call_records calls) ≡ call_count calls
+unfolding call_records
+records_long calls = length_table (call_count calls) _
+
+-- the calls that were read from a table's records, of an array that has others behind them
+pub calls_read : (calls : List ℕ) (read : List Call) → take (call_count calls) read ≡ map call_or_none (call_records calls)
+    → length (take (call_count calls) read) ≡ call_count calls
+calls_read calls read e = ap length e ∙ length-map (call_records calls) call_or_none ∙ records_long calls
 
 -- of a table that is taken
 pub record Fitting (calls answers : ℕ) : Type 0 where

@@ -22,9 +22,6 @@ returns-then-not-is_receipt c =
     let out : is_receipt c.args.n ≡ false = sym c.is_receipt.ensures ∙ c.if-not-is_receipt.true in
     c.record_of.ensures ∙ sym (ap record_of (nth_outside no_receipt (decode s).receipts c.args.n (rw (decode_sized s).receipts out)))
 
-pub record_at-requires : goal.record_at-requires
-record_at-requires c = (same_long _ c.requires.0, omega (arith, inside (goal.at.record_at-requires c).Else-not-is_receipt))
-
 pub returns : goal.returns
 returns c =
     let in_table = inside (goal.at.returns c).Else-not-is_receipt in
