@@ -90,13 +90,13 @@ fn close_lodged(image: &mut [u8], n: u8, f: Record) -> Entry
         put::receipt_record(image, k, settled_record(f));
         events::money::release_to(image, f.buyer, held);
         events::money::freeze_from(image, f.buyer, full);
-        return rules::by_buyer(n, Outcome::Settled, f, full.0 as u32);
+        return rules::by_buyer(n, Outcome::Settled as u8, f, full.0 as u32);
     }
     put::receipt_record(image, k, idle_record(f));
     events::money::release_to(image, f.buyer, held);
     events::money::debit_from(image, f.buyer, held);
     events::money::credit_to(image, f.seller, held);
-    rules::by_buyer(n, Outcome::BuyerDefault, f, PER_RECEIPT as u32)
+    rules::by_buyer(n, Outcome::BuyerDefault as u8, f, PER_RECEIPT as u32)
 }
 
 // The deposit is free again. The seller owes the penalty from tomorrow on, or both have defaulted.
@@ -110,11 +110,11 @@ fn close_struck(image: &mut [u8], n: u8, f: Record) -> Entry
     if has_money(lots::free_of(image, f.buyer), validity::full_of(f)) {
         put::receipt_record(image, k, penalty_record(f, tomorrow));
         events::money::release_to(image, f.buyer, held);
-        return rules::by_seller(n, Outcome::SellerDefault, f, 0);
+        return rules::by_seller(n, Outcome::SellerDefault as u8, f, 0);
     }
     put::receipt_record(image, k, idle_record(f));
     events::money::release_to(image, f.buyer, held);
-    rules::by_buyer(n, Outcome::BothDefaulted, f, 0)
+    rules::by_buyer(n, Outcome::BothDefaulted as u8, f, 0)
 }
 
 // The penalty, as far as the seller's free money goes.
@@ -127,7 +127,7 @@ fn close_penalty(image: &mut [u8], n: u8, f: Record) -> Entry
     put::receipt_record(image, k, idle_record(f));
     events::money::debit_from(image, f.seller, passed);
     events::money::credit_to(image, f.buyer, passed);
-    rules::by_seller(n, Outcome::Penalty, f, passed.0 as u32)
+    rules::by_seller(n, Outcome::Penalty as u8, f, passed.0 as u32)
 }
 
 // A lot of state 3, 4 or 7, on its due day or later.
@@ -169,5 +169,5 @@ pub fn end_offer(image: &mut [u8], n: u8) -> Option<Entry>
     };
     put::receipt_record(image, k, idle_record(f));
     events::money::release_to(image, f.buyer, frozen);
-    Some(rules::by_owner(n, Outcome::Ended, f.seller))
+    Some(rules::by_owner(n, Outcome::Ended as u8, f.seller))
 }

@@ -20,7 +20,7 @@ pub fn register_at(c: Call, n: u8) -> Event
     ensures { Some result ≡ register c n }
 {
     Event {
-        entry: rules::by_owner(n, Outcome::Registered, c.account),
+        entry: rules::by_owner(n, Outcome::Registered as u8, c.account),
         receipt: Receipt {
             owner: c.account,
             weight: Kilograms(c.weight),
@@ -41,7 +41,7 @@ pub fn list_at(c: Call, n: u8, f: Record) -> Event
         basis: Basis(c.basis),
     };
     Event {
-        entry: rules::by_owner(n, Outcome::Listed, c.account),
+        entry: rules::by_owner(n, Outcome::Listed as u8, c.account),
         receipt: rules::with_lot(f, Lot::Listed(listing)),
     }
 }
@@ -50,7 +50,7 @@ pub fn end_listing(n: u8, f: Record) -> Event
     ensures { Some result ≡ listing_ended n f }
 {
     Event {
-        entry: rules::by_owner(n, Outcome::Ended, f.seller),
+        entry: rules::by_owner(n, Outcome::Ended as u8, f.seller),
         receipt: rules::with_lot(f, Lot::Idle),
     }
 }
@@ -146,7 +146,7 @@ pub fn withdraw_bid(n: u8, f: Record) -> Event
     ensures { Some result ≡ withdraw_bid n f }
 {
     Event {
-        entry: rules::by_buyer(n, Outcome::BidWithdrawn, f, 0),
+        entry: rules::by_buyer(n, Outcome::BidWithdrawn as u8, f, 0),
         receipt: rules::with_lot(f, Lot::Listed(zone::listing_of(f))),
     }
 }

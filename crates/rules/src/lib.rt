@@ -3,7 +3,7 @@
 
 ghost use Rattle.std.specs.Prelude.{◌≡◌};
 ghost use Rattle.rules.specs.Effects.{owned_by, with_lot};
-ghost use Rattle.rules.specs.Kinds.{kind_of, outcome_number};
+ghost use Rattle.rules.specs.Kinds.{kind_of};
 
 use units::{Fen, YuanPerTonne};
 use zone::{Lot, Receipt, Record};
@@ -103,8 +103,8 @@ pub enum Refusal {
 
 // ── Values ──────────────────────────────────────────────────────────────────────────────────────
 
-// A call record, field by field; `spare` is the number of its three zero bytes as they came, `basis` the premium where a receipt is
-// registered.
+// A call record, field by field, as it came; `spare` is the number of its three zero bytes, `basis` the premium where a receipt is
+// registered. The kind is a byte: the definitions of specs/ judge calls with any number there, and number 3 refuses those of no kind.
 #[derive(Clone, Copy)]
 pub struct Call {
     pub kind: u8,
@@ -118,7 +118,8 @@ pub struct Call {
     pub weight: u32,
 }
 
-// A line of an answer. The number is a price in outcomes 4 and 6, and fen in those others that have one.
+// A line of an answer. The number is a price where a bid stands or is struck, and fen in those other outcomes that have one. The outcome is
+// a byte of the answer, which the definitions of specs/ read back as they find it.
 #[derive(Clone, Copy)]
 pub struct Entry {
     pub lot: u8,
@@ -156,6 +157,8 @@ pub struct Event {
 
 // ── Entries and receipts of an event ────────────────────────────────────────────────────────────
 
+// The outcome of an entry is given as its number: what these promise holds of any. Lot, record and number go one by one, as in `entry_of`.
+
 // The receipt of a record, with this owner and lot: weight and premium stay.
 fn owned_by(owner: u8, f: Record, lot: Lot) -> Receipt
     ensures { result ≡ owned_by owner f lot }
@@ -176,12 +179,12 @@ pub fn with_lot(f: Record, lot: Lot) -> Receipt
 }
 
 // From the buyer to the seller.
-pub fn by_buyer(n: u8, outcome: Outcome, f: Record, number: u32) -> Entry
-    ensures { result ≡ record { lot = n; outcome = outcome_number outcome; from = f.buyer; to = f.seller; number = number } }
+pub fn by_buyer(n: u8, outcome: u8, f: Record, number: u32) -> Entry
+    ensures { result ≡ record { lot = n; outcome = outcome; from = f.buyer; to = f.seller; number = number } }
 {
     Entry {
         lot: n,
-        outcome: outcome as u8,
+        outcome,
         from: f.buyer,
         to: f.seller,
         number,
@@ -189,12 +192,12 @@ pub fn by_buyer(n: u8, outcome: Outcome, f: Record, number: u32) -> Entry
 }
 
 // From the seller to the buyer.
-pub fn by_seller(n: u8, outcome: Outcome, f: Record, number: u32) -> Entry
-    ensures { result ≡ record { lot = n; outcome = outcome_number outcome; from = f.seller; to = f.buyer; number = number } }
+pub fn by_seller(n: u8, outcome: u8, f: Record, number: u32) -> Entry
+    ensures { result ≡ record { lot = n; outcome = outcome; from = f.seller; to = f.buyer; number = number } }
 {
     Entry {
         lot: n,
-        outcome: outcome as u8,
+        outcome,
         from: f.seller,
         to: f.buyer,
         number,
@@ -202,12 +205,12 @@ pub fn by_seller(n: u8, outcome: Outcome, f: Record, number: u32) -> Entry
 }
 
 // From the owner or seller, to nobody.
-pub fn by_owner(n: u8, outcome: Outcome, owner: u8) -> Entry
-    ensures { result ≡ record { lot = n; outcome = outcome_number outcome; from = owner; to = 0; number = 0 } }
+pub fn by_owner(n: u8, outcome: u8, owner: u8) -> Entry
+    ensures { result ≡ record { lot = n; outcome = outcome; from = owner; to = 0; number = 0 } }
 {
     Entry {
         lot: n,
-        outcome: outcome as u8,
+        outcome,
         from: owner,
         to: 0,
         number: 0,

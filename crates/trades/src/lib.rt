@@ -14,7 +14,7 @@ pub fn lodge_at(n: u8, f: Record) -> Event
     ensures { Some result ≡ lodge n f }
 {
     Event {
-        entry: rules::by_seller(n, Outcome::Lodged, f, 0),
+        entry: rules::by_seller(n, Outcome::Lodged as u8, f, 0),
         receipt: rules::with_lot(f, Lot::Lodged(zone::trade_of(f))),
     }
 }
@@ -29,7 +29,7 @@ pub fn pay_first(n: u8, f: Record) -> Event
     let paid = units::first_payment(validity::full_of(f));
     let lot = Lot::FirstPaid(zone::trade_of(f), zone::no_invoices());
     Event {
-        entry: rules::by_buyer(n, Outcome::FirstPaid, f, paid.0 as u32),
+        entry: rules::by_buyer(n, Outcome::FirstPaid as u8, f, paid.0 as u32),
         receipt: rules::with_lot(f, lot),
     }
 }
@@ -45,7 +45,7 @@ pub fn invoice_at(c: Call, n: u8, f: Record) -> Event
         paid: f.paid,
     };
     Event {
-        entry: rules::by_seller(n, Outcome::Invoiced, f, c.amount as u32),
+        entry: rules::by_seller(n, Outcome::Invoiced as u8, f, c.amount as u32),
         receipt: rules::with_lot(f, Lot::FirstPaid(zone::trade_of(f), invoices)),
     }
 }
@@ -74,7 +74,7 @@ pub fn confirm_at(n: u8, f: Record) -> Event
     let full = validity::full_of(f);
     let part = units::part_payment(full, f.confirmed, f.paid, f.pending);
     Event {
-        entry: rules::by_buyer(n, Outcome::PartPaid, f, part.0 as u32),
+        entry: rules::by_buyer(n, Outcome::PartPaid as u8, f, part.0 as u32),
         receipt: rules::with_lot(f, confirmed_lot(f, full, part)),
     }
 }

@@ -20,7 +20,7 @@ fn strike_lot(image: &mut [u8], c: Call, n: u8) -> Option<Entry>
         return None;
     }
     put::receipt_record(image, k, offers::struck_record(v, f));
-    Some(rules::by_buyer(n, Outcome::Struck, f, f.price.0))
+    Some(rules::by_buyer(n, Outcome::Struck as u8, f, f.price.0))
 }
 
 // What a call through all lots does at lot n.
