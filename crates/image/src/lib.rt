@@ -94,6 +94,7 @@ pub const HEADER_RECEIPT_START: u32 = RECEIPT_START as u32;
 // ── A part, read where it stands ────────────────────────────────────────────────────────────────
 
 // An image stays a slice whose length each of these requires: the entries take slices from C, whose length `verdict::image_ok` tests once.
+// Its tables are read by index, from 0 on.
 
 pub fn day_in(image: &[u8]) -> u16
     requires { length image.now ≡ image_length }

@@ -1,4 +1,5 @@
-// The code of the rules of registration, listings and bids: kinds 3 to 9.
+// The code of the rules of registration, listings and bids. View, call, lot and record go one by one, as the rules of specs/ are functions of
+// them.
 #![tactic(auto)]
 
 ghost use Rattle.std.specs.Prelude.{◌≡◌, ◌≤◌, Some};

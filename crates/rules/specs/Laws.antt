@@ -3,7 +3,6 @@ pub mod Moves
 pub mod Funded
 pub mod Kinds
 pub mod Numbered
-pub mod Arms
 pub mod Steps
 pub mod Passed
 pub mod Good

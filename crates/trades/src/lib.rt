@@ -1,4 +1,5 @@
-// The code of the rules of a struck trade: lodging, payments and invoices. Kinds 10 and 12 to 14.
+// The code of the rules of a struck trade: lodging, payments and invoices. Call, lot and record go one by one, as the rules of specs/ are
+// functions of them. An amount of a trade fits 32 bits by the promises of `units`, so that the casts of entries lose nothing.
 #![tactic(auto)]
 
 ghost use Rattle.std.specs.Prelude.{true, ◌≡◌, ◌+◌, ◌<◌, ◌^◌, Some};

@@ -148,7 +148,8 @@ pub fn is_amount(x: u64) -> bool
 
 // ── The money of a trade ────────────────────────────────────────────────────────────────────────
 
-// Price, basis and premium stay three parameters: `unit_price`, `payable` and `full_payment` of specs/ are functions of three.
+// Price, basis and premium stay three parameters, and so do full, confirmed and paid: the definitions of specs/ are functions of three. That
+// full is below 2^32 stands at each of five: a type for it would ask more of callers.
 
 // price + basis + premium: at 64 bits the sum never wraps.
 #[tactic(auto, unfolding(crate::specs::Payments::unit_price))]
@@ -158,7 +159,7 @@ fn unit_price(price: YuanPerTonne, basis: Basis, premium: Premium) -> i64
     i64::from(price.0) + i64::from(basis.0) + i64::from(premium.0)
 }
 
-// The sum as an unsigned number. No valid trade has a sum below 0; one of other fields counts as 0.
+// The sum as an unsigned number. No valid trade has a sum below 0; here it counts as 0.
 #[tactic(auto, using(crate::proofs::SignedSums::natural, crate::proofs::SignedSums::unit_small))]
 fn price_to_pay(price: YuanPerTonne, basis: Basis, premium: Premium) -> u64
     ensures { (result ≡ at_least_0 (unit_price price basis premium)) × (result < 2 ^ 33) }

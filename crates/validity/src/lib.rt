@@ -13,7 +13,8 @@ use zone::{Hold, Record, State};
 
 // ── Fields ──────────────────────────────────────────────────────────────────────────────────────
 
-// State, owner, weight and premium, which every registered receipt has.
+// State, owner, weight and premium, which every registered receipt has. The numbers up to the last state's are the states': tested so,
+// nothing branches.
 pub fn kept_ok(r: Record) -> bool
     ensures { result ≡ kept_ok r }
 {
@@ -98,8 +99,8 @@ fn invoices_within(r: Record) -> bool
 // ── One record, by its state ────────────────────────────────────────────────────────────────────
 
 // Each of these judges a record in its state that `kept_ok` has passed. They are apart so that whoever reads a record out of an image
-// reads, once it knows the state, only the fields that the state's tests need. They take the record itself, as `verdict` has it, and no
-// type for one that `kept_ok` has passed.
+// reads, once it knows the state, only the fields that the state's tests need. They take the record itself, as `verdict` has it: a type
+// for one that `kept_ok` has passed would ask more of callers.
 
 #[tactic(auto, using(crate::proofs::ByState::idle, crate::proofs::ByState::judged))]
 pub fn idle_ok(r: Record) -> bool

@@ -84,7 +84,7 @@ pub struct Invoices {
     pub paid: Fen,
 }
 
-// The eight states, 0 to 7 in this order.
+// A lot in each state, with what it has there.
 #[derive(Clone, Copy)]
 pub enum Lot {
     Idle,
@@ -116,7 +116,8 @@ pub struct Zone {
     pub total: Fen,
 }
 
-// A receipt field by field, as its record in the image has it. Fields not filled are zero.
+// A receipt field by field, as its record in the image has it. Fields not filled are zero. The state is a byte, not a `State`: the
+// definitions of specs/ judge records with any number there.
 #[derive(Clone, Copy)]
 pub struct Record {
     pub owner: u8,
