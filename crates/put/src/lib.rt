@@ -41,7 +41,8 @@ fn record_first_fields(image: &mut [u8], at: usize, r: Record)
     wire::put_i32(image, at + BASIS_PLACE, r.basis.0);
 }
 
-// An amount in four bytes. In a valid record it is below 2^32, so that nothing is cut off; a cast would ask for that, and any record is put.
+// An amount in four bytes. In a valid record it is below 2^32, so that nothing is cut off. A cast by itself would ask for that, but any
+// record is put.
 fn low_half(n: Fen) -> u32
     ensures { result ≡ n.0 % 4294967296 }
 {
