@@ -4,7 +4,6 @@ use Rattle.units.specs.Ranges.{last_day}
 use Rattle.zone.specs.declared.Zone.{Zone}
 use Rattle.zone.specs.Parts.{with_clock}
 use Rattle.image.specs.Image.{decode, encode}
-use Rattle.image.specs.Laws.RoundTrip.{same_long}
 use Rattle.rules.specs.Effects.{ending}
 use Rattle.events.specs.Laws.Moved.{encoded}
 use Rattle.calls.specs.Laws.Good.{cleared}

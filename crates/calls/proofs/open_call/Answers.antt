@@ -8,7 +8,7 @@ use Rattle.zone.specs.declared.Zone.{Zone}
 use Rattle.zone.specs.Laws.Tests.{InRange, price_at_most}
 use Rattle.zone.specs.Parts.{with_asks, with_total}
 use Rattle.image.specs.Image.{decode, encode}
-use Rattle.image.specs.Laws.RoundTrip.{same_long, decode_sized, valid_fits}
+use Rattle.image.specs.Laws.RoundTrip.{decode_sized, valid_fits}
 use Rattle.rules.specs.Effects.{opening}
 use Rattle.rules.specs.Events.{credit, debit}
 use Rattle.rules.specs.Kinds.{kind_number}

@@ -8,13 +8,12 @@ use Rattle.zone.specs.Laws.Facts.{bounds}
 use Rattle.zone.specs.Laws.Held.{full_le}
 use Rattle.zone.specs.Record.{trade_of}
 use Rattle.image.specs.Image.{decode}
-use Rattle.image.specs.Laws.RoundTrip.{same_long}
 use Rattle.rules.specs.Effects.{entry_of, owned_by, with_lot}
 use Rattle.rules.specs.Events.{credit, debit, release, freeze}
 use Rattle.rules.specs.Laws.Funded.{pass_free, hold_free, all_debited}
-use Rattle.events.specs.Laws.Moved.{Moved, record_kept, next, released, debited, credited}
+use Rattle.events.specs.Laws.Moved.{Moved, next, released, debited, credited}
 use Rattle.events.specs.Laws.Nothing.{debit_nothing, credit_nothing}
-use Rattle.closes.specs.Laws.Closing.{affords, Begun, tells_money, hold_from, settled_begun, buyer_begun, settles, buyer_defaults, worked, ended, held_anew, passed_on, old_in, from_in, to_in, new_in, asked, due_valid, buyer_limit}
+use Rattle.closes.specs.Laws.Closing.{affords, Begun, tells_money, hold_from, settled_begun, buyer_begun, settles, buyer_defaults, worked, ended, held_anew, passed_on, old_in, from_in, to_in, new_in, asked, due_valid}
 use Rattle.closes.proofs.close_lodged.Goals as goal
 use Rattle.closes.proofs.close_lodged.Goals.{After-has_money, After-receipt_record, After-release_to, After-receipt_record-2, After-release_to-2, After-debit_from}
 

@@ -4,7 +4,7 @@ use Rattle.zone.specs.declared.State.TheVariants.{Struck, Lodged, PenaltyDue}
 use Rattle.zone.specs.Laws.States.{is_state}
 use Rattle.zone.specs.State.{state_number}
 use Rattle.image.specs.Image.{decode}
-use Rattle.image.specs.Laws.RoundTrip.{same_long, valid_fits}
+use Rattle.image.specs.Laws.RoundTrip.{valid_fits}
 use Rattle.rules.specs.View.{record_of_receipt}
 use Rattle.events.specs.Laws.Moved.{record_in_place}
 use Rattle.closes.specs.Laws.Closing.{not_due, no_close, idle_worked, other_state, another_state}

@@ -2,14 +2,12 @@
 use Rattle.std.proofs.Common.{◌≡◌, sym, ap, ◌∙◌, ℕ, ◌+◌, arith}
 use Rattle.units.specs.Payments.{fen}
 use Rattle.zone.specs.declared.Lot.TheVariants.{Idle, PenaltyDue}
-use Rattle.zone.specs.Laws.Facts.{bounds}
 use Rattle.zone.specs.Record.{record_of}
 use Rattle.image.specs.Image.{decode}
-use Rattle.image.specs.Laws.RoundTrip.{same_long, valid_fits}
+use Rattle.image.specs.Laws.RoundTrip.{valid_fits}
 use Rattle.rules.specs.Effects.{entry_of, with_lot}
 use Rattle.rules.specs.Events.{release}
-use Rattle.events.specs.Laws.Moved.{record_kept}
-use Rattle.closes.specs.Laws.Closing.{affords, Begun, tells_money, hold_from, seller_begun, both_begun, seller_defaults, both_default, worked, ended, only_released, old_in, due_valid, buyer_limit}
+use Rattle.closes.specs.Laws.Closing.{affords, Begun, tells_money, hold_from, seller_begun, both_begun, seller_defaults, both_default, worked, ended, only_released, old_in}
 use Rattle.closes.proofs.close_struck.Goals as goal
 use Rattle.closes.proofs.close_struck.Goals.{After-day_in-tomorrow, After-has_money, After-receipt_record, After-receipt_record-2}
 

@@ -1,16 +1,16 @@
 -- The record is put; the deposit of a bid is freed.
-use Rattle.std.proofs.Common.{◌≡◌, ap, sym, ◌∙◌, arith}
+use Rattle.std.proofs.Common.{◌≡◌, ap, sym, ◌∙◌}
 use Rattle.zone.specs.declared.State.TheVariants.{Listed, BidStands}
 use Rattle.zone.specs.Laws.States.{is_state}
 use Rattle.zone.specs.State.{state_number}
 use Rattle.image.specs.Image.{decode}
-use Rattle.image.specs.Laws.RoundTrip.{same_long, valid_fits}
+use Rattle.image.specs.Laws.RoundTrip.{valid_fits}
 use Rattle.units.specs.Payments.{fen}
 use Rattle.zone.specs.declared.Lot.TheVariants.{Idle}
 use Rattle.rules.specs.Effects.{entry_of, with_lot}
 use Rattle.rules.specs.Events.{release}
 use Rattle.rules.specs.View.{record_of_receipt}
-use Rattle.events.specs.Laws.Moved.{record_in_place, record_kept}
+use Rattle.events.specs.Laws.Moved.{record_in_place}
 use Rattle.closes.specs.Laws.Closing.{Begun, Offer, listed_offer, bid_offer, no_offer, offer_begun, idle_worked, worked, ended, only_released, old_in, ends, hold_from, other_state, another_state}
 use Rattle.closes.proofs.end_offer.Goals as goal
 use Rattle.closes.proofs.end_offer.Goals.{After-record_at-f, After-receipt_record, Joined-state, in-Listed, in-BidStands}

@@ -1,7 +1,8 @@
 -- A lot that a close works: the rule's event there, the record put, and the money that moves.
 -- Assumes nothing.
 use Rattle.std.specs.Prelude.{Result, Ok, Some, None, Bool, true, false, pos, List, [], ◌∷◌, ◌≡◌, ℕ, ◌+◌, ◌-◌, ◌≤◌, ◌<◌, leb, set}
-use Rattle.std.proofs.Common.{refl, sym, ap, ◌∙◌, subst, le-leb, lt-leb, ne_eqb}
+use Rattle.std.proofs.Common.{refl, sym, ap, ◌∙◌, subst, le-leb, ne_eqb}
+use Rattle.std.proofs.lemmas.Bool.{lt-leb}
 use Rattle.units.specs.declared.Fen.{Fen}
 use Rattle.units.specs.Payments.{fen, deposit, penalty_passed}
 use Rattle.units.specs.Ranges.{account_count, money_limit, most_weight}

@@ -1,11 +1,11 @@
 -- Who is no receipt has the record of none.
-use Rattle.std.proofs.Common.{false, ◌≡◌, arith, sym, ap, ◌∙◌}
+use Rattle.std.proofs.Common.{false, ◌≡◌, sym, ap, ◌∙◌}
 use Rattle.units.specs.Ranges.{is_receipt, receipt_count}
 use Rattle.zone.specs.Laws.Tests.{InRange, range_in}
 use Rattle.zone.specs.Record.{record_of}
 use Rattle.zone.specs.Valid.{no_receipt}
 use Rattle.image.specs.Image.{decode}
-use Rattle.image.specs.Laws.RoundTrip.{same_long, decode_sized}
+use Rattle.image.specs.Laws.RoundTrip.{decode_sized}
 use Rattle.rules.specs.View.{receipt_of_number}
 use Rattle.events.specs.Laws.Moved.{record_in_place}
 use Rattle.lots.specs.Laws.Past.{nth_outside}
