@@ -66,33 +66,15 @@ impl<R: Print> Run<'_, R> {
         self.report.count_call(&made)
     }
 
-    // Tables on the run's own images. The maker is written out twice (c): returned by a function, the borrow checker does not cover it yet.
-    fn make_some_table(&mut self) -> io::Result<()> {
-        let mut maker = TableMaker {
-            report: Report {
-                rt: self.report.rt,
-                tally: self.report.tally,
-            },
-            draws: &mut self.draws,
+    // Makes tables on the run's own images.
+    fn table_maker(&mut self) -> TableMaker<'_, R> {
+        TableMaker {
             plan: self.plan,
-            sides: &mut self.sides,
             altered: false,
-        };
-        maker.make_some_table()
-    }
-
-    fn open(&mut self) -> io::Result<()> {
-        let mut maker = TableMaker {
-            report: Report {
-                rt: self.report.rt,
-                tally: self.report.tally,
-            },
             draws: &mut self.draws,
-            plan: self.plan,
             sides: &mut self.sides,
-            altered: false,
-        };
-        maker.open()
+            report: self.report.again(),
+        }
     }
 
     fn next_call(&mut self) -> io::Result<()> {
@@ -100,16 +82,13 @@ impl<R: Print> Run<'_, R> {
             0..=11 => self.judge_altered(),
             12..=23 => self.make_call(true),
             24..=97 => self.make_call(false),
-            _ => self.make_some_table(),
+            _ => self.table_maker().make_some_table(),
         }
     }
 
     fn ask_now_and_then(&mut self) -> io::Result<()> {
-        let report = Report {
-            rt: self.report.rt,
-            tally: self.report.tally,
-        };
-        ask_now_and_then(report, self.draws, self.plan, &self.sides.image)
+        let image = &self.sides.image;
+        ask_now_and_then(self.report.again(), self.draws, self.plan, image)
     }
 }
 
@@ -126,7 +105,7 @@ pub fn make_run<R: Print>(rt: &R, plan: Plan, tally: &mut Tally) -> io::Result<(
         plan,
         sides,
     };
-    run.open()?;
+    run.table_maker().open()?;
     for _ in 0..plan.calls {
         run.ask_now_and_then()?;
         run.next_call()?;

@@ -94,18 +94,15 @@ impl Tally {
         let equal = strikes_at_one_price(answer);
         let one_price = equal != 0;
         let different = equal.wrapping_add(1) < entries_in(answer);
-        self.add_contract(contract, ContractCount::SeveralStruck, 1);
-        self.add_contract(contract, ContractCount::AtOnePrice, u64::from(one_price));
-        self.add_contract(
-            contract,
-            ContractCount::AtDifferentPrices,
-            u64::from(different),
-        );
-        self.add_contract(
-            contract,
-            ContractCount::AtBoth,
-            u64::from(one_price && different),
-        );
+        let counts = [
+            (ContractCount::SeveralStruck, true),
+            (ContractCount::AtOnePrice, one_price),
+            (ContractCount::AtDifferentPrices, different),
+            (ContractCount::AtBoth, one_price && different),
+        ];
+        for (what, is_so) in counts {
+            self.add_contract(contract, what, u64::from(is_so));
+        }
     }
 
     fn count_quote(&mut self, contract: u64, answer: &Page) {
@@ -117,7 +114,8 @@ impl Tally {
         }
     }
 
-    // A bid on a lot, as the image has it after the bid.
+    // A bid on a lot, as the image has it after the bid. The row is the whole field of a wild call, and not the byte that its record has (a): what
+    // is printed counts it so.
     fn count_bid(&mut self, made: &Made) {
         let contract = made.after.cell(CONTRACT, made.request.receipt);
         let struck = made.answer.cell(OUTCOME, 1) == Outcome::Struck as u64;

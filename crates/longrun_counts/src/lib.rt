@@ -2,7 +2,7 @@
 #![tactic(auto)]
 
 mod altered;
-mod calls;
+mod call_counts;
 mod entries;
 mod limits;
 mod made;

@@ -13,6 +13,18 @@ pub struct Report<'a, R: Print> {
 }
 
 impl<R: Print> Report<'_, R> {
+    // The same, lent to a part of the run.
+    pub fn again(&mut self) -> Report<'_, R> {
+        Report {
+            rt: self.rt,
+            tally: self.tally,
+        }
+    }
+
+    pub fn tally(&mut self) -> &mut Tally {
+        self.tally
+    }
+
     // Counts a difference; whether it is one of the first five, which are shown.
     fn count_difference(&mut self) -> bool {
         self.tally.differences = self.tally.differences.wrapping_add(1);

@@ -61,7 +61,7 @@ impl<R: Print> TableMaker<'_, R> {
     fn make_table(&mut self, lengths: Lengths, first: u64) -> io::Result<()> {
         let alone = self.make_each_alone(lengths, first)?;
         let made = self.sides.drive_table(&alone);
-        count_table(&made, self.report.tally);
+        count_table(&made, self.report.tally());
         self.report.show(
             "difference at a table of calls after call ",
             "  calls in it ",
@@ -80,10 +80,7 @@ impl<R: Print> TableMaker<'_, R> {
         alteration.alter();
         let mut sides = Sides::on(&copy);
         let mut on_copy = TableMaker {
-            report: Report {
-                rt: self.report.rt,
-                tally: self.report.tally,
-            },
+            report: self.report.again(),
             draws: self.draws,
             plan: self.plan,
             sides: &mut sides,

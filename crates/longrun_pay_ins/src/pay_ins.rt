@@ -5,9 +5,9 @@ use ledger_book::{
     ACCOUNTS, BUYER, Cells, DAY, DUE, FROM, Kind, LOT, OUTCOME, Outcome, Page, RECEIPTS, SELLER,
     SHORTFALL, ZONE,
 };
-use longrun_counts::{Difference, Made, Report, entries_in};
+use longrun_counts::{Difference, Made, entries_in};
 use longrun_draws::{Draws, Request};
-use longrun_shortfalls::{DueLot, Owing, OwingClass, due_lot};
+use longrun_shortfalls::{DueLot, Owing, due_lot};
 use longrun_sides::Sides;
 use std::io;
 
@@ -57,19 +57,6 @@ fn some_short(draws: &mut Draws, figures: &Page) -> Option<u64> {
         .last()
 }
 
-// The report is passed by itself here too (c).
-fn count_paid<R: Print>(report: &mut Report<'_, R>, class: Option<OwingClass>) {
-    if let Some(class) = class {
-        report.tally.paid_figures.add(class as u64);
-    }
-}
-
-fn count_paid_less<R: Print>(report: &mut Report<'_, R>, due: Option<DueLot>) {
-    if let Some(due) = due {
-        report.tally.paid_less.add(due as u64);
-    }
-}
-
 impl<R: Print> Asking<'_, R> {
     // ── The close ───────────────────────────────────────────────────────────────────────────────
 
@@ -116,7 +103,9 @@ impl<R: Print> Asking<'_, R> {
         let Some(closed) = self.pay_and_close(account, figure)? else {
             return Ok(());
         };
-        count_paid(&mut self.report, owing.of(account).class());
+        if let Some(class) = owing.of(account).class() {
+            self.report.tally().paid_figures.add(class as u64);
+        }
         self.judge(None, &closed, account)
     }
 
@@ -127,7 +116,9 @@ impl<R: Print> Asking<'_, R> {
         let Some(closed) = self.pay_and_close(account, figure.wrapping_sub(1))? else {
             return Ok(());
         };
-        count_paid_less(&mut self.report, due_lot(&self.image, trade));
+        if let Some(due) = due_lot(&self.image, trade) {
+            self.report.tally().paid_less.add(due as u64);
+        }
         self.judge(Some(trade), &closed, account)
     }
 
