@@ -8,7 +8,7 @@ use Rattle.crz.proofs.make_call.Goals as goal
 pub returns-then-answer-lt-ANSWER_LENGTH : goal.returns-then-answer-lt-ANSWER_LENGTH
 returns-then-answer-lt-ANSWER_LENGTH c =
     let a = c.args in
-    refused_with_lem a.image.now a.c a.answer.now 1 _ (sym (short_with a.image.now a.c a.answer.now c.if-answer-lt-ANSWER_LENGTH.true)) (omega arith) (sym (refusal_short a.answer.now))
+    refused_with_lem a.image.now a.c a.answer.now 1 _ (sym (short_with a.image.now a.c a.answer.now (omega (arith, c.if-answer-lt-ANSWER_LENGTH.true)))) (omega arith) (sym (refusal_short a.answer.now))
 
 pub refuse-requires : goal.refuse-requires
 refuse-requires c =

@@ -2,10 +2,11 @@
 use mathlib.Core.Bool.{true}
 use mathlib.Core.List.{List}
 use mathlib.Core.Path.{◌≡◌, sym, ap, ◌∙◌}
+use Prim.Native.Nat.{ℕ, ◌*◌, ◌≤◌}
 use native.Mathlib.Omega.{arith}
 use lib.ListN.{length, take}
-use Rattle.std.proofs.lemmas.List.{length-take}
-use Rattle.answers.specs.Buffers.{call_count}
+use Rattle.std.proofs.lemmas.List.{length-take, length-take-le}
+use Rattle.answers.specs.Buffers.{call_count, answer_length}
 use Rattle.rules.specs.declared.Call.{Call}
 use Rattle.crz.specs.CallTable.{in_turn, table_fits}
 use Rattle.crz.specs.Laws.CallTable.{Fitting, fitting, calls_read, table_refused, table_made}
@@ -27,20 +28,24 @@ returns-then-not-table_fits c =
 pub read_calls-table-requires : goal.read_calls-table-requires
 read_calls-table-requires c = (fit (goal.at.read_calls-table-requires c).Else-not-table_fits).bytes
 
--- the first calls of the array are those of the table
-first : (c : After-read_calls-table) → length (take (call_count c.args.calls.now) c.read_calls-table.result) ≡ call_count c.args.calls.now
-first c = calls_read c.args.calls.now _ c.read_calls-table.ensures
+-- the array has the calls of the table, and others behind them
+enough : (c : After-read_calls-table) → call_count c.args.calls.now ≤ length c.read_calls-table.result
+enough c = omega (arith, calls_read c.args.calls.now _ c.read_calls-table.ensures, length-take (call_count c.args.calls.now) c.read_calls-table.result)
+
+-- room for some of the calls
+room_left : {k n room : ℕ} (cs : List Call) → k ≤ n → n * answer_length ≤ room → length (take k cs) * answer_length ≤ room
+room_left {k} cs le h = omega (arith, length-take k cs, le, h)
 
 pub slice_bounds-table-end : goal.slice_bounds-table-end
-slice_bounds-table-end c = omega (arith, first (goal.at.slice_bounds-table-end c).After-read_calls-table, length-take (call_count c.args.calls.now) c.read_calls-table.result)
+slice_bounds-table-end c = omega (arith, enough (goal.at.slice_bounds-table-end c).After-read_calls-table)
 
 pub slice_bounds-make_calls-end : goal.slice_bounds-make_calls-end
-slice_bounds-make_calls-end c = sym (first (goal.at.slice_bounds-make_calls-end c).After-read_calls-table)
+slice_bounds-make_calls-end c = sym (length-take-le _ _ (omega (arith, enough (goal.at.slice_bounds-make_calls-end c).After-read_calls-table)))
 
 pub make_calls-requires : goal.make_calls-requires
 make_calls-requires c =
     let f = fit (goal.at.make_calls-requires c).Else-not-table_fits in
-    (c.image_ok-valid.ensures, omega (arith, first (goal.at.make_calls-requires c).After-read_calls-table, f.room))
+    (c.image_ok-valid.ensures, room_left _ (omega arith) f.room)
 
 pub returns : goal.returns
 returns c =
