@@ -66,7 +66,7 @@ pub fn make_call(image: &mut [u8], valid: bool, c: Call, answer: &mut [u8]) -> u
     }
     match carry(image, valid, c, answer) {
         Ok(()) => 0,
-        Err(refusal) => answers::refuse(answer, refusal),
+        Err(refusal) => answers::refuse(answer, refusal as u8),
     }
 }
 
