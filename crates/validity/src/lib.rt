@@ -174,28 +174,31 @@ pub fn ask_ok(ask: YuanPerTonne) -> bool
 
 // ── What a lot holds ────────────────────────────────────────────────────────────────────────────
 
-// After the first payment the record has what was paid since, so that nothing is divided again.
+// After the first payment the record has what was paid since, so that nothing is divided again. The state is tested by its number and not
+// read as a `State`: with a second jump by the state, a call on a zone half full took 678 ns, and takes 609 with these tests.
 #[tactic(auto, using(crate::proofs::Money::weight_valid, crate::proofs::Money::full_valid, crate::proofs::Money::paid_valid, crate::proofs::Money::paid_as_due), unfolding(zone::specs::Held::held))]
-fn held(state: State, r: Record) -> Fen
-    requires { (record_valid r ≡ true) × (r.state ≡ state_number state) }
+fn held(r: Record) -> Fen
+    requires { record_valid r ≡ true }
     ensures { result ≡ held r }
 {
-    match state {
-        State::BidStands | State::Struck | State::Lodged => units::deposit_per_receipt(),
-        State::Settled => full_of(r),
-        State::FirstPaid => units::rest_payment(full_of(r)) - r.paid,
-        _ => Fen(0),
+    let state = r.state;
+    if (State::BidStands as u8..=State::Lodged as u8).contains(&state) {
+        units::deposit_per_receipt()
+    } else if state == State::Settled as u8 {
+        full_of(r)
+    } else if state == State::FirstPaid as u8 {
+        units::rest_payment(full_of(r)) - r.paid
+    } else {
+        Fen(0)
     }
 }
 
-#[tactic(auto, using(zone::specs::Laws::States::is_state, crate::proofs::Money::nothing_held))]
 pub fn hold_of(r: Record) -> Hold
     requires { record_valid r ≡ true }
     ensures { result ≡ hold_of r }
 {
-    let fen = match State::try_from(r.state) {
-        Ok(state) => held(state, r),
-        Err(_) => Fen(0),
-    };
-    Hold { from: r.buyer, fen }
+    Hold {
+        from: r.buyer,
+        fen: held(r),
+    }
 }
