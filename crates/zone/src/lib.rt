@@ -144,6 +144,8 @@ pub struct Hold {
 
 // ── A receipt and its record ────────────────────────────────────────────────────────────────────
 
+// What is not filled is written out as zeros, as the definitions have it: by Default the fields that the layout fixes would not be seen here.
+
 fn no_listing(seller: u8) -> Listing
     ensures { result ≡ no_listing seller }
 {
