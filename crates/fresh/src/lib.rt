@@ -1,12 +1,13 @@
 // A fresh zone, and the bytes of a whole zone.
 #![tactic(auto)]
 
-ghost use Rattle.std.specs.Prelude.{◌≡◌, false, length, take};
+ghost use Rattle.std.specs.Prelude.{◌≡◌, ◌+◌, ◌*◌, ◌≤◌, ℕ, List, false, length, take};
 ghost use Rattle.std.proofs.lemmas.List.Edits.{sets};
 ghost use Rattle.zone.specs.Valid.{no_receipt, fresh_zone};
 ghost use Rattle.image.specs.Table.{table_bytes};
-ghost use Rattle.image.specs.Layout.{image_length, account_start, contract_start, receipt_start, phase_place, header_bytes, account_bytes, ask_bytes, receipt_bytes};
+ghost use Rattle.image.specs.Layout.{image_length, account_length, ask_length, receipt_length, account_start, contract_start, receipt_start, phase_place, header_bytes, account_bytes, ask_bytes, receipt_bytes};
 ghost use Rattle.image.specs.Image.{encode};
+ghost use Rattle.image.specs.Laws.Layout.{account_wide, ask_wide, receipt_wide};
 
 use image::{
     ACCOUNT_COUNT_PLACE, ACCOUNT_LENGTH, ACCOUNT_START, ACCOUNT_START_PLACE, ASK_LENGTH,
@@ -29,10 +30,10 @@ fn no_receipt() -> Receipt
     }
 }
 
+#[tactic(auto, unfolding(zone::specs::Valid::fresh_zone))]
 pub fn fresh_zone() -> Zone
     ensures { result ≡ fresh_zone }
 {
-    let blank = no_receipt();
     Zone {
         day: 1,
         afternoon: false,
@@ -41,7 +42,7 @@ pub fn fresh_zone() -> Zone
             free: Fen(0),
             frozen: Fen(0),
         }; ACCOUNTS],
-        receipts: [blank; RECEIPTS],
+        receipts: [no_receipt(); RECEIPTS],
         total: Fen(0),
     }
 }
@@ -67,45 +68,85 @@ fn put_header(image: &mut [u8], day: u16, afternoon: bool, total: Fen)
     ensures { image.new ≡ sets image.old 0 (header_bytes day afternoon total.0) }
 {
     put_counts(image, day);
-    let phase = [image::phase(afternoon), 0, 0, 0];
-    wire::put_run(image, PHASE_PLACE, &phase);
+    wire::put_run(image, PHASE_PLACE, &[image::phase(afternoon), 0, 0, 0]);
     wire::put_u64(image, TOTAL_PLACE, total.0);
 }
 
-fn put_accounts(image: &mut [u8], a: [Account; ACCOUNTS])
-    requires { length image.old ≡ image_length }
-    ensures { image.new ≡ sets image.old account_start (table_bytes account_bytes a) }
-{
-    let mut i: usize = 0;
-    while i < ACCOUNTS {
-        put::account_bytes(image, ACCOUNT_START + i * ACCOUNT_LENGTH, a[i]);
-        i += 1;
+// An item of one of the three tables.
+trait Item {
+    ghost size: { ℕ };
+
+    ghost bytes: { Self → List ℕ };
+
+    // Each item has as many bytes as any other.
+    ghost wide: { (item : Self) → length (bytes item) ≡ size };
+
+    // A function, because a clause of a generic function cannot read an associated constant.
+    fn length() -> usize
+        ensures { result ≡ size };
+
+    fn put(self, image: &mut [u8], at: usize)
+        requires { at + size ≤ length image.old }
+        ensures { image.new ≡ sets image.old at (bytes self) };
+}
+
+impl Item for Account {
+    ghost size = { account_length };
+
+    ghost bytes = { account_bytes };
+
+    ghost wide = { account_wide };
+
+    fn length() -> usize {
+        ACCOUNT_LENGTH
+    }
+
+    fn put(self, image: &mut [u8], at: usize) {
+        put::account_bytes(image, at, self);
     }
 }
 
-fn put_asks(image: &mut [u8], a: [YuanPerTonne; CONTRACTS])
-    requires { length image.old ≡ image_length }
-    ensures { image.new ≡ sets image.old contract_start (table_bytes ask_bytes a) }
-{
-    let mut i: usize = 0;
-    while i < CONTRACTS {
-        wire::put_u32(image, CONTRACT_START + i * ASK_LENGTH, a[i].0);
-        i += 1;
+impl Item for YuanPerTonne {
+    ghost size = { ask_length };
+
+    ghost bytes = { ask_bytes };
+
+    ghost wide = { ask_wide };
+
+    fn length() -> usize {
+        ASK_LENGTH
+    }
+
+    #[tactic(auto, unfolding(image::specs::Layout::ask_bytes))]
+    fn put(self, image: &mut [u8], at: usize) {
+        wire::put_u32(image, at, self.0);
     }
 }
 
-fn put_receipts(image: &mut [u8], a: [Receipt; RECEIPTS])
-    requires { length image.old ≡ image_length }
-    ensures { image.new ≡ sets image.old receipt_start (table_bytes receipt_bytes a) }
+impl Item for Receipt {
+    ghost size = { receipt_length };
+
+    ghost bytes = { receipt_bytes };
+
+    ghost wide = { receipt_wide };
+
+    fn length() -> usize {
+        RECEIPT_LENGTH
+    }
+
+    #[tactic(auto, unfolding(image::specs::Layout::receipt_bytes))]
+    fn put(self, image: &mut [u8], at: usize) {
+        put::record_bytes(image, at, zone::record_of(self));
+    }
+}
+
+// The items of a table one behind the other, from `start` on.
+fn put_table<T: Item + Copy>(image: &mut [u8], start: usize, items: &[T])
+    requires { start + length items.now * T.size ≤ length image.old }
+    ensures { image.new ≡ sets image.old start (table_bytes T.bytes items.now) }
 {
-    let mut i: usize = 0;
-    while i < RECEIPTS {
-        put::record_bytes(
-            image,
-            RECEIPT_START + i * RECEIPT_LENGTH,
-            zone::record_of(a[i]),
-        );
-        i += 1;
+    for (i, item) in items.iter().enumerate() {
+        item.put(image, start + i * T::length());
     }
 }
 
@@ -114,10 +155,7 @@ pub fn write_image(image: &mut [u8], z: Zone)
     ensures { image.new ≡ encode z }
 {
     put_header(image, z.day, z.afternoon, z.total);
-    let accounts = z.accounts;
-    put_accounts(image, accounts);
-    let asks = z.asks;
-    put_asks(image, asks);
-    let receipts = z.receipts;
-    put_receipts(image, receipts);
+    put_table(image, ACCOUNT_START, &z.accounts);
+    put_table(image, CONTRACT_START, &z.asks);
+    put_table(image, RECEIPT_START, &z.receipts);
 }

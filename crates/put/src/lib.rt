@@ -20,6 +20,7 @@ use zone::{Account, Record};
 
 // ── Runs of bytes ───────────────────────────────────────────────────────────────────────────────
 
+#[tactic(auto, using(wire::specs::Laws::Bytes::sets_append, wire::specs::Laws::Bytes::length_le_bytes), unfolding(image::specs::Layout::account_bytes))]
 pub fn account_bytes(image: &mut [u8], at: usize, a: Account)
     requires { at + account_length ≤ length image.old }
     ensures { image.new ≡ sets image.old at (account_bytes a) }
@@ -40,7 +41,8 @@ fn record_first_fields(image: &mut [u8], at: usize, r: Record)
     wire::put_i32(image, at + BASIS_PLACE, r.basis.0);
 }
 
-// An amount in four bytes. In a valid record it is below 2^32, so that nothing is cut off.
+// An amount in four bytes. In a valid record it is below 2^32, so that nothing is cut off. A cast by itself would ask for that, but any
+// record is put.
 fn low_half(n: Fen) -> u32
     ensures { result ≡ n.0 % 4294967296 }
 {
@@ -69,6 +71,7 @@ pub fn record_bytes(image: &mut [u8], at: usize, r: Record)
 
 // ── Parts of a zone ─────────────────────────────────────────────────────────────────────────────
 
+#[tactic(auto, using(image::specs::Laws::RoundTrip::same_long, image::specs::Laws::Places::clock_put))]
 pub fn clock(image: &mut [u8], day: u16, afternoon: bool)
     requires { Encoded image.old }
     ensures { image.new ≡ encode (with_clock (decode image.old) day afternoon) }
@@ -77,6 +80,7 @@ pub fn clock(image: &mut [u8], day: u16, afternoon: bool)
     image[PHASE_PLACE] = image::phase(afternoon);
 }
 
+#[tactic(auto, using(image::specs::Laws::RoundTrip::same_long, image::specs::Laws::Places::total_put))]
 pub fn total(image: &mut [u8], total: Fen)
     requires { Encoded image.old }
     ensures { image.new ≡ encode (with_total (decode image.old) total) }
@@ -84,6 +88,7 @@ pub fn total(image: &mut [u8], total: Fen)
     wire::put_u64(image, TOTAL_PLACE, total.0);
 }
 
+#[tactic(auto, using(image::specs::Laws::RoundTrip::same_long, image::specs::Laws::Places::account_put))]
 pub fn account(image: &mut [u8], k: usize, a: Account)
     requires { Encoded image.old × (k < account_count) }
     ensures { image.new ≡ encode (with_accounts (decode image.old) (set (decode image.old).accounts k a)) }
@@ -91,6 +96,7 @@ pub fn account(image: &mut [u8], k: usize, a: Account)
     account_bytes(image, ACCOUNT_START + k * ACCOUNT_LENGTH, a);
 }
 
+#[tactic(auto, using(image::specs::Laws::RoundTrip::same_long, image::specs::Laws::Places::ask_put), unfolding(image::specs::Layout::ask_bytes))]
 pub fn ask(image: &mut [u8], k: usize, ask: YuanPerTonne)
     requires { Encoded image.old × (k < contract_count) }
     ensures { image.new ≡ encode (with_asks (decode image.old) (set (decode image.old).asks k ask)) }
@@ -99,6 +105,7 @@ pub fn ask(image: &mut [u8], k: usize, ask: YuanPerTonne)
 }
 
 // Every ask is none.
+#[tactic(auto, using(image::specs::Laws::RoundTrip::same_long, image::specs::Laws::Places::asks_cleared))]
 pub fn no_asks(image: &mut [u8])
     requires { Encoded image.old }
     ensures { image.new ≡ encode (with_asks (decode image.old) no_asks) }
@@ -107,6 +114,7 @@ pub fn no_asks(image: &mut [u8])
 }
 
 // A receipt, by its record.
+#[tactic(auto, using(image::specs::Laws::RoundTrip::same_long, image::specs::Laws::Places::receipt_put), unfolding(image::specs::Layout::receipt_bytes))]
 pub fn receipt_record(image: &mut [u8], k: usize, f: Record)
     requires { Encoded image.old × (k < receipt_count) × (record_of (receipt_of f) ≡ f) }
     ensures { image.new ≡ encode (with_receipts (decode image.old) (set (decode image.old).receipts k (receipt_of f))) }

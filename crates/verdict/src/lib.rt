@@ -32,6 +32,7 @@ const THIRD_ZERO: usize = PHASE_PLACE + 3;
 const ABOVE_LIMIT: u64 = 1125899906842624;
 
 // Counts, starts, phase and the three zero bytes.
+#[tactic(auto, unfolding(image::specs::Layout::header_ok))]
 fn header_ok(image: &[u8]) -> bool
     requires { length image.now ≡ image_length }
     ensures { result ≡ header_ok image.now }
@@ -58,6 +59,7 @@ fn asks_ok(image: &[u8]) -> bool
 
 // ── The records ─────────────────────────────────────────────────────────────────────────────────
 
+#[tactic(auto, using(image::specs::Laws::Table::byte_in), unfolding(image::specs::Layout::record_in))]
 fn owner_at(image: &[u8], k: usize) -> u8
     requires { (length image.now ≡ image_length) × (k < receipt_count) }
     ensures { result ≡ (record_in (receipt_run image.now k)).owner }
@@ -67,6 +69,7 @@ fn owner_at(image: &[u8], k: usize) -> u8
 
 // A receipt that nobody has registered is zero in all its bytes. Eight are read at a time, the premium by itself: quicker than field by
 // field.
+#[tactic(auto, using(crate::specs::Laws::Zeros::zeros_test))]
 fn all_zero(s: &[u8]) -> bool
     requires { length s.now ≡ receipt_length }
     ensures { result ≡ blank (record_in s.now) }
@@ -78,6 +81,7 @@ fn all_zero(s: &[u8]) -> bool
         & (wire::get_u32(s, PREMIUM_PLACE) == 0)
 }
 
+#[tactic(auto, using(image::specs::Laws::Table::part_wide))]
 fn blank_at(image: &[u8], k: usize) -> bool
     requires { (length image.now ≡ image_length) × (k < receipt_count) }
     ensures { result ≡ blank (record_in (receipt_run image.now k)) }

@@ -33,9 +33,9 @@ returns c =
     let a = table_bytes account_bytes z.accounts in
     let k = table_bytes ask_bytes z.asks in
     let r = table_bytes receipt_bytes z.receipts in
-    c.put_receipts.ensures
-    ∙ ap (λ (t : List ℕ). sets t receipt_start r) c.put_asks.ensures
-    ∙ ap (λ (t : List ℕ). sets (sets t contract_start k) receipt_start r) c.put_accounts.ensures
+    c.put_table-3.ensures
+    ∙ ap (λ (t : List ℕ). sets t receipt_start r) c.put_table-2.ensures
+    ∙ ap (λ (t : List ℕ). sets (sets t contract_start k) receipt_start r) c.put_table.ensures
     ∙ ap (λ (t : List ℕ). sets (sets (sets t account_start a) contract_start k) receipt_start r) c.put_header.ensures
     ∙ put_four s (header_bytes z.day z.afternoon z.total.0) a k r c.requires (header_wide z.day z.afternoon z.total.0)
     (length_table_bytes account_bytes account_length account_wide z.accounts ∙ ap (λ (n : ℕ). n * account_length) (accounts_long (goal.at.returns c).Start))

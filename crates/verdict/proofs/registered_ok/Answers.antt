@@ -1,10 +1,7 @@
 -- What all states share comes first. It leaves no number that is no state's.
-use Rattle.std.proofs.Common.{◌≡◌, List, ℕ, zero, suc, ◌≤◌, true, false, ◌&&◌, leb, Ok, refl, sym, ap, ◌∙◌, arith, ne_eqb, leb-true}
+use Rattle.std.proofs.Common.{◌≡◌, List, ℕ, ◌≤◌, true, false, ◌&&◌, leb, sym, ap, ◌∙◌, arith, ne_eqb, leb-true}
 use Rattle.units.specs.Ranges.{is_account, is_weight, is_premium}
-use Rattle.zone.specs.declared.State.{State}
-use Rattle.zone.specs.declared.State.TheVariants.{Idle, Listed, BidStands, Struck, Lodged, Settled, FirstPaid, PenaltyDue}
 use Rattle.zone.specs.declared.Record.{Record}
-use Rattle.zone.specs.State.{state_of}
 use Rattle.zone.specs.Laws.States.{is_state}
 use Rattle.zone.specs.Valid.{fields_ok, record_valid}
 use Rattle.zone.specs.Laws.Tests.{both}
