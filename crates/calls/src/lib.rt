@@ -25,7 +25,8 @@ fn sweeps(kind: Kind) -> bool
     matches!(kind, Kind::Quote | Kind::MorningClose | Kind::DayClose)
 }
 
-// Lots that the call does not concern are passed over. Returns how many entries it has put into the answer.
+// Lots that the call does not concern are passed over. Returns how many entries it has put into the answer, which is the host's buffer and has
+// room for one of each lot.
 fn sweep_lots(image: &mut [u8], c: Call, answer: &mut [u8]) -> usize
     requires { Encoded image.old × (valid_zone (decode image.old) ≡ true) × (sweeps c.kind ≡ true) × (answer_length ≤ length answer.old) }
     ensures { (image.new ≡ encode (sweep (rule_at c) receipt_count 1 (decode image.old)).zone) × ((result, answer.new) ≡ listed (sweep (rule_at c) receipt_count 1 (decode image.old)).entries answer.old) }
@@ -61,7 +62,7 @@ fn post_one(image: &mut [u8], at: Option<Event>, answer: &mut [u8]) -> usize
 
 // ── Opening and ending ──────────────────────────────────────────────────────────────────────────
 
-#[tactic(auto, unfolding(rules::specs::Effects::opening))]
+#[tactic(auto, using(image::specs::Laws::RoundTrip::same_long), unfolding(rules::specs::Effects::opening))]
 fn open_call(image: &mut [u8], kind: Kind, c: Call)
     requires { Encoded image.old × (valid_zone (decode image.old) ≡ true) × (number_on (decode image.old) c ≡ 0) × (c.kind ≡ kind_number kind) }
     ensures { image.new ≡ encode (opening c (decode image.old)) }
@@ -84,7 +85,7 @@ fn open_call(image: &mut [u8], kind: Kind, c: Call)
     }
 }
 
-#[tactic(auto, unfolding(rules::specs::Effects::ending))]
+#[tactic(auto, using(image::specs::Laws::RoundTrip::same_long), unfolding(rules::specs::Effects::ending))]
 fn end_call(image: &mut [u8], kind: Kind)
     requires { Encoded image.old × Fits (decode image.old) }
     ensures { (c : Call) → c.kind ≡ kind_number kind → image.new ≡ encode (ending c (decode image.old)) }
@@ -103,7 +104,7 @@ fn end_call(image: &mut [u8], kind: Kind)
 // ── The order of the entries ────────────────────────────────────────────────────────────────────
 
 // A quote lists its strikes by price; every other call has its entries as the lots were visited.
-#[tactic(auto, unfolding(rules::specs::Order::answer_order))]
+#[tactic(auto, using(answers::specs::Laws::Entries::as_they_stand), unfolding(rules::specs::Order::answer_order))]
 fn answer_order(kind: Kind, answer: &mut [u8], count: usize)
     requires { (answer_length ≤ length answer.old) × (count ≤ receipt_count) }
     ensures { answer.new ≡ with_entries 0 (answer_order (kind_number kind) (entries_from 0 count answer.old)) answer.old }

@@ -1,6 +1,6 @@
 // The code of the closes, kinds 11 and 15, at a lot that they come by: in each case the record is put, the money is moved that moves there,
 // and the entry is given. What a close does at a lot is by the lot alone, so that no call is handed on.
-#![tactic(auto)]
+#![tactic(auto, using(image::specs::Laws::RoundTrip::same_long, events::specs::Laws::Moved::record_kept, crate::specs::Laws::Closing::due_weight, crate::specs::Laws::Closing::buyer_limit))]
 
 ghost use Rattle.std.specs.Prelude.{◌≡◌, ◌+◌, ◌≤◌, leb, Some};
 ghost use Rattle.units.specs.Payments.{deposit};
@@ -75,6 +75,8 @@ fn has_money(free: Fen, full: Fen) -> bool
 {
     full <= free + units::deposit_per_receipt()
 }
+
+// In these three, n and f stay beside the image: a struct of them would have to keep `Due`, which the first write ends.
 
 // Paid in full, the receipt is the buyer's; without the money the deposit passes.
 fn close_lodged(image: &mut [u8], n: u8, f: Record) -> Entry

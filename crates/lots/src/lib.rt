@@ -1,5 +1,5 @@
 // A call at one lot of an image: what its rule reads, and what it does there.
-#![tactic(auto)]
+#![tactic(auto, using(image::specs::Laws::RoundTrip::same_long))]
 
 ghost use Rattle.std.specs.Prelude.{true, ◌≡◌, ◌≤◌, ◌<◌, length};
 ghost use Rattle.units.specs.Ranges.{contract_count, receipt_count};
@@ -56,6 +56,7 @@ fn record_of_receipt(image: &[u8], n: u8) -> Record
     image::record_at(image, usize::from(n - 1))
 }
 
+#[tactic(auto, using(image::specs::Laws::RoundTrip::same_long, crate::specs::Laws::Visits::contract_in), unfolding(rules::specs::View::view_of, image::specs::Image::decode))]
 pub fn view_of(image: &[u8], a: u8, f: Record) -> View
     requires { (length image.now ≡ image_length) × (record_valid f ≡ true) }
     ensures { result ≡ view_of (decode image.now) a f }

@@ -1,5 +1,5 @@
 // A lot that a call through all lots comes by: what the call does there, in the image.
-#![tactic(auto)]
+#![tactic(auto, using(image::specs::Laws::RoundTrip::same_long))]
 
 ghost use Rattle.std.specs.Prelude.{true, ◌≡◌};
 ghost use Rattle.rules.specs.Effects.{sweeps};

@@ -4,14 +4,10 @@ use Rattle.units.specs.Ranges.{last_day}
 use Rattle.zone.specs.declared.Zone.{Zone}
 use Rattle.zone.specs.Parts.{with_clock}
 use Rattle.image.specs.Image.{decode, encode}
-use Rattle.image.specs.Laws.RoundTrip.{same_long}
 use Rattle.rules.specs.Effects.{ending}
 use Rattle.events.specs.Laws.Moved.{encoded}
 use Rattle.calls.specs.Laws.Good.{cleared}
 use Rattle.calls.proofs.end_call.Goals as goal
-
-pub day_in-day-requires : goal.day_in-day-requires
-day_in-day-requires c = same_long _ c.requires.0
 
 pub overflow_add-day : goal.overflow_add-day
 unfolding decode

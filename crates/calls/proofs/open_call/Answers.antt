@@ -8,7 +8,7 @@ use Rattle.zone.specs.declared.Zone.{Zone}
 use Rattle.zone.specs.Laws.Tests.{InRange, price_at_most}
 use Rattle.zone.specs.Parts.{with_asks, with_total}
 use Rattle.image.specs.Image.{decode, encode}
-use Rattle.image.specs.Laws.RoundTrip.{same_long, decode_sized, valid_fits}
+use Rattle.image.specs.Laws.RoundTrip.{decode_sized, valid_fits}
 use Rattle.rules.specs.Effects.{opening}
 use Rattle.rules.specs.Events.{credit, debit}
 use Rattle.rules.specs.Kinds.{kind_number}
@@ -67,9 +67,6 @@ ask_in n h = go (eqb n 0) refl h
     go : (b : Bool) → eqb n 0 ≡ b → b || is_price n ≡ true → n ≤ most_price
     go true e h = omega (arith, eqb-true n 0 e)
     go false e h = price_at_most n h
-
-pub total_in-total-requires : goal.total_in-total-requires
-total_in-total-requires c = same_long _ c.requires.0
 
 pub credit_to-requires : goal.credit_to-requires
 credit_to-requires c = let M = paid_in (goal.at.credit_to-requires c).In-PayIn in (c.requires.0, valid_fits _ c.requires.1, M.account.high, (λ _. omega (arith, M.amount)))

@@ -1,13 +1,11 @@
 -- The lots of an accepted call: all of them, or what the rule did at the receipt that the call names.
 -- Assumes nothing.
-use Rattle.std.specs.Prelude.{true, false, [], ◌∷◌, ◌≡◌, ℕ}
+use Rattle.std.specs.Prelude.{Some, None, true, false, [], ◌∷◌, ◌≡◌, refl, ℕ}
 use Rattle.std.proofs.Common.{true≢false, append-nil, sym, ap, ◌∙◌}
-use Rattle.std.proofs.Math.Path.{refl}
 use Rattle.units.specs.Ranges.{is_receipt, receipt_count}
 use Rattle.zone.specs.declared.Zone.{Zone}
 use Rattle.zone.specs.Laws.Tests.{InRange, range_in}
 use Rattle.rules.specs.AtLot.{AtLot}
-use Rattle.std.specs.Prelude.{Some, None}
 use Rattle.rules.specs.declared.Call.{Call}
 use Rattle.rules.specs.Effects.{rule_at, rule_of, no_rule, sweeps, opening, first_lot, lot_count, sweep_kinds}
 use Rattle.rules.specs.Events.{after_lot, sweep}

@@ -1,11 +1,8 @@
 -- A sweep one lot further, as the code's loop goes: what the lots so far left, then the rule at the next lot.
 -- Assumes nothing.
-use Rattle.std.specs.Prelude.{true, List, [], ◌∷◌, ◌++◌, ◌≡◌, refl, length}
-use Rattle.std.proofs.Common.{append_assoc, append-nil, sym, ◌∙◌, add-one, length-append}
-use Rattle.std.proofs.Math.Path.{ap, subst}
-use Prim.Native.Nat.{ℕ, zero, suc, ◌+◌, ◌≤◌, ◌<◌}
+use Rattle.std.specs.Prelude.{Option, Some, None, true, List, [], ◌∷◌, ◌++◌, ◌≡◌, refl, ℕ, zero, suc, ◌+◌, ◌≤◌, ◌<◌, length}
+use Rattle.std.proofs.Common.{append_assoc, append-nil, sym, ap, subst, ◌∙◌, add-one, length-append, arith}
 use Rattle.std.proofs.Math.Decide.{ℕ_discrete}
-use native.Mathlib.Omega.{arith}
 use Rattle.std.proofs.lemmas.List.Edits.{sets}
 use Rattle.std.proofs.Math.Seq.{length-sets}
 use Rattle.units.specs.Ranges.{receipt_count}
@@ -22,7 +19,6 @@ use Rattle.image.specs.Image.{decode, encode, Encoded}
 use Rattle.image.specs.Table.{table_bytes}
 use Rattle.answers.specs.Buffers.{entry_place, entry_bytes, listed}
 use Rattle.answers.specs.Laws.Entries.{put_next}
-use Rattle.std.specs.Prelude.{Option, Some, None}
 use Rattle.lots.specs.Concerned.{PassedOver}
 use Rattle.lots.specs.Noted.{entries_of, Worked}
 use Rattle.calls.specs.Laws.Good.{Of, bytes_of}

@@ -8,13 +8,12 @@ use Rattle.zone.specs.Laws.Facts.{bounds}
 use Rattle.zone.specs.Laws.Held.{full_le}
 use Rattle.zone.specs.Record.{trade_of}
 use Rattle.image.specs.Image.{decode}
-use Rattle.image.specs.Laws.RoundTrip.{same_long}
 use Rattle.rules.specs.Effects.{entry_of, owned_by, with_lot}
 use Rattle.rules.specs.Events.{credit, debit, release, freeze}
 use Rattle.rules.specs.Laws.Funded.{pass_free, hold_free, all_debited}
-use Rattle.events.specs.Laws.Moved.{Moved, record_kept, next, released, debited, credited}
+use Rattle.events.specs.Laws.Moved.{Moved, next, released, debited, credited}
 use Rattle.events.specs.Laws.Nothing.{debit_nothing, credit_nothing}
-use Rattle.closes.specs.Laws.Closing.{affords, Begun, tells_money, hold_from, settled_begun, buyer_begun, settles, buyer_defaults, worked, ended, held_anew, passed_on, old_in, from_in, to_in, new_in, asked, due_valid, buyer_limit}
+use Rattle.closes.specs.Laws.Closing.{affords, Begun, tells_money, hold_from, settled_begun, buyer_begun, settles, buyer_defaults, worked, ended, held_anew, passed_on, old_in, from_in, to_in, new_in, asked, due_valid}
 use Rattle.closes.proofs.close_lodged.Goals as goal
 use Rattle.closes.proofs.close_lodged.Goals.{After-has_money, After-receipt_record, After-release_to, After-receipt_record-2, After-release_to-2, After-debit_from}
 
@@ -49,18 +48,6 @@ taken c =
 
 -- ── Needs ──────────────────────────────────────────────────────────────────────────────────────
 
-pub full_of-full-requires : goal.full_of-full-requires
-full_of-full-requires c = (bounds c.args.f (due_valid c.requires.0)).weight
-
-pub free_of-requires : goal.free_of-requires
-free_of-requires c = same_long _ c.requires.0.at.encoded
-
-pub has_money-requires : goal.has_money-requires
-has_money-requires c = rw c.free_of.ensures (buyer_limit c.requires.0)
-
-pub receipt_record-requires : goal.receipt_record-requires
-receipt_record-requires c = (c.requires.0.at.encoded, omega (arith, c.requires.0.at.high), record_kept _ c.settled_record.ensures)
-
 pub release_to-requires : goal.release_to-requires
 release_to-requires c =
     let B = bought (goal.at.release_to-requires c).After-receipt_record in
@@ -88,9 +75,6 @@ returns-then-has_money c =
     (held_anew (hold_from a.f.buyer held) a.f.buyer a.f.seller (hold_from a.f.buyer whole))
     (next (freeze a.f.buyer whole) (freed (goal.at.returns-then-has_money c).After-release_to) c.freeze_from.ensures))
     (c.by_buyer.ensures ∙ ap (λ (x : Fen). entry_of a.n 8 a.f.seller a.f.buyer x.0) c.full_of-full.ensures)
-
-pub receipt_record-requires-2 : goal.receipt_record-requires-2
-receipt_record-requires-2 c = (c.requires.0.at.encoded, omega (arith, c.requires.0.at.high), record_kept _ c.idle_record.ensures)
 
 pub release_to-requires-2 : goal.release_to-requires-2
 release_to-requires-2 c =

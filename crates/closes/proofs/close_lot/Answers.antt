@@ -4,7 +4,7 @@ use Rattle.zone.specs.declared.State.TheVariants.{Struck, Lodged, PenaltyDue}
 use Rattle.zone.specs.Laws.States.{is_state}
 use Rattle.zone.specs.State.{state_number}
 use Rattle.image.specs.Image.{decode}
-use Rattle.image.specs.Laws.RoundTrip.{same_long, valid_fits}
+use Rattle.image.specs.Laws.RoundTrip.{valid_fits}
 use Rattle.rules.specs.View.{record_of_receipt}
 use Rattle.events.specs.Laws.Moved.{record_in_place}
 use Rattle.closes.specs.Laws.Closing.{not_due, no_close, idle_worked, other_state, another_state}
@@ -22,12 +22,6 @@ today c = c.day_in.ensures
 -- on its due day or later
 due : (c : Else-day_in-f) → Due c.args.n c.args.image.now c.record_at-f.result
 due c = record { at = c.requires; read = read c.before.before.before; day = omega (arith, today c.before.before, c.if-day_in-f.false) }
-
-pub record_at-f-requires : goal.record_at-f-requires
-record_at-f-requires c = (same_long _ c.requires.encoded, omega (arith, c.requires.high))
-
-pub day_in-requires : goal.day_in-requires
-day_in-requires c = same_long _ c.requires.encoded
 
 pub returns-then-day_in-f : goal.returns-then-day_in-f
 returns-then-day_in-f c =

@@ -5,12 +5,11 @@ use Rattle.units.specs.Laws.Bounds.{penalty_at_most}
 use Rattle.units.specs.Payments.{fen, per_receipt, penalty_passed}
 use Rattle.zone.specs.declared.Lot.TheVariants.{Idle}
 use Rattle.image.specs.Image.{decode}
-use Rattle.image.specs.Laws.RoundTrip.{same_long}
 use Rattle.rules.specs.Effects.{entry_of, with_lot}
 use Rattle.rules.specs.Events.{credit, debit, release}
 use Rattle.rules.specs.Laws.Funded.{pass_free, all_debited}
 use Rattle.rules.specs.View.{free_of}
-use Rattle.events.specs.Laws.Moved.{Moved, record_kept, debited, credited}
+use Rattle.events.specs.Laws.Moved.{Moved, debited, credited}
 use Rattle.events.specs.Laws.Nothing.{release_nothing}
 use Rattle.closes.specs.Laws.Closing.{Begun, hold_from, penalty_begun, pays_penalty, worked, ended, passed_on, from_in, to_in, nothing_freed, asked}
 use Rattle.closes.proofs.close_penalty.Goals as goal
@@ -29,12 +28,6 @@ taken : (c : After-debit_from) →
 taken c =
     let B = begun c.before.before.before.before in
     debited _ B.fits B.funds (nothing_freed B) c.debit_from.ensures
-
-pub free_of-requires : goal.free_of-requires
-free_of-requires c = same_long _ c.requires.0.at.encoded
-
-pub receipt_record-requires : goal.receipt_record-requires
-receipt_record-requires c = (c.requires.0.at.encoded, omega (arith, c.requires.0.at.high), record_kept _ c.idle_record.ensures)
 
 pub debit_from-requires : goal.debit_from-requires
 debit_from-requires c =

@@ -2,14 +2,12 @@
 use Rattle.std.proofs.Common.{◌≡◌, sym, ap, ◌∙◌, ℕ, ◌+◌, arith}
 use Rattle.units.specs.Payments.{fen}
 use Rattle.zone.specs.declared.Lot.TheVariants.{Idle, PenaltyDue}
-use Rattle.zone.specs.Laws.Facts.{bounds}
 use Rattle.zone.specs.Record.{record_of}
 use Rattle.image.specs.Image.{decode}
-use Rattle.image.specs.Laws.RoundTrip.{same_long, valid_fits}
+use Rattle.image.specs.Laws.RoundTrip.{valid_fits}
 use Rattle.rules.specs.Effects.{entry_of, with_lot}
 use Rattle.rules.specs.Events.{release}
-use Rattle.events.specs.Laws.Moved.{record_kept}
-use Rattle.closes.specs.Laws.Closing.{affords, Begun, tells_money, hold_from, seller_begun, both_begun, seller_defaults, both_default, worked, ended, only_released, old_in, due_valid, buyer_limit}
+use Rattle.closes.specs.Laws.Closing.{affords, Begun, tells_money, hold_from, seller_begun, both_begun, seller_defaults, both_default, worked, ended, only_released, old_in}
 use Rattle.closes.proofs.close_struck.Goals as goal
 use Rattle.closes.proofs.close_struck.Goals.{After-day_in-tomorrow, After-has_money, After-receipt_record, After-receipt_record-2}
 
@@ -30,23 +28,8 @@ over : (c : After-receipt_record-2) →
     Begun c.args.image.now c.receipt_record-2.new.image (entry_of c.args.n 14 c.args.f.seller c.args.f.buyer 0) (with_lot c.args.f Idle) (hold_from c.args.f.buyer c.deposit_per_receipt-held.result) (fen 0) (hold_from 0 (fen 0))
 over c = both_begun c.requires.0 (rw c.from-k.ensures at c.receipt_record-2.ensures) c.requires.1 (sym (tested c.before.before.before.before) ∙ c.if-has_money.false) c.deposit_per_receipt-held.ensures c.idle_record.ensures
 
-pub day_in-tomorrow-requires : goal.day_in-tomorrow-requires
-day_in-tomorrow-requires c = same_long _ c.requires.0.at.encoded
-
 pub overflow_add-tomorrow : goal.overflow_add-tomorrow
 overflow_add-tomorrow c = omega (arith, today (goal.at.overflow_add-tomorrow c).After-day_in-tomorrow, (valid_fits _ c.requires.0.at.valid).day)
-
-pub free_of-requires : goal.free_of-requires
-free_of-requires c = same_long _ c.requires.0.at.encoded
-
-pub full_of-requires : goal.full_of-requires
-full_of-requires c = (bounds c.args.f (due_valid c.requires.0)).weight
-
-pub has_money-requires : goal.has_money-requires
-has_money-requires c = rw c.free_of.ensures (buyer_limit c.requires.0)
-
-pub receipt_record-requires : goal.receipt_record-requires
-receipt_record-requires c = (c.requires.0.at.encoded, omega (arith, c.requires.0.at.high), record_kept _ c.penalty_record.ensures)
 
 pub release_to-requires : goal.release_to-requires
 release_to-requires c =
@@ -60,9 +43,6 @@ returns-then-has_money c =
     λ call kind. worked call a.n a.image.now (seller_defaults c.requires.0 call kind c.requires.1 h)
     (ended (owing (goal.at.returns-then-has_money c).After-receipt_record) (release a.f.buyer c.deposit_per_receipt-held.result) (only_released (hold_from a.f.buyer c.deposit_per_receipt-held.result) a.f.seller a.f.buyer a.f.buyer) c.release_to.ensures)
     c.by_seller.ensures
-
-pub receipt_record-requires-2 : goal.receipt_record-requires-2
-receipt_record-requires-2 c = (c.requires.0.at.encoded, omega (arith, c.requires.0.at.high), record_kept _ c.idle_record.ensures)
 
 pub release_to-requires-2 : goal.release_to-requires-2
 release_to-requires-2 c =

@@ -1,25 +1,22 @@
 -- The record is put; the deposit of a bid is freed.
-use Rattle.std.proofs.Common.{◌≡◌, ap, sym, ◌∙◌, arith}
+use Rattle.std.proofs.Common.{◌≡◌, ap, sym, ◌∙◌}
 use Rattle.zone.specs.declared.State.TheVariants.{Listed, BidStands}
 use Rattle.zone.specs.Laws.States.{is_state}
 use Rattle.zone.specs.State.{state_number}
 use Rattle.image.specs.Image.{decode}
-use Rattle.image.specs.Laws.RoundTrip.{same_long, valid_fits}
+use Rattle.image.specs.Laws.RoundTrip.{valid_fits}
 use Rattle.units.specs.Payments.{fen}
 use Rattle.zone.specs.declared.Lot.TheVariants.{Idle}
 use Rattle.rules.specs.Effects.{entry_of, with_lot}
 use Rattle.rules.specs.Events.{release}
 use Rattle.rules.specs.View.{record_of_receipt}
-use Rattle.events.specs.Laws.Moved.{record_in_place, record_kept}
+use Rattle.events.specs.Laws.Moved.{record_in_place}
 use Rattle.closes.specs.Laws.Closing.{Begun, Offer, listed_offer, bid_offer, no_offer, offer_begun, idle_worked, worked, ended, only_released, old_in, ends, hold_from, other_state, another_state}
 use Rattle.closes.proofs.end_offer.Goals as goal
 use Rattle.closes.proofs.end_offer.Goals.{After-record_at-f, After-receipt_record, Joined-state, in-Listed, in-BidStands}
 
 read : (c : After-record_at-f) → c.record_at-f.result ≡ record_of_receipt (decode c.args.image.now) c.args.n
 read c = c.record_at-f.ensures ∙ rw c.from-k.ensures (record_in_place _ c.requires.encoded (valid_fits _ c.requires.valid) c.args.n c.requires.low c.requires.high)
-
-pub record_at-f-requires : goal.record_at-f-requires
-record_at-f-requires c = (same_long _ c.requires.encoded, omega (arith, c.requires.high))
 
 -- with no bid nothing was held, with one the deposit
 offer : (c : Joined-state) → Offer c.record_at-f.result c.match-state.frozen
@@ -39,9 +36,6 @@ returns-in_default c =
     λ call kind. idle_worked call c.args.n c.args.image.now c.requires.encoded
     (no_offer c.args.n c.args.image.now (read (goal.at.returns-in_default c).After-record_at-f) call kind
     (other_state Listed c.try_from.ensures (c.in_default.not-Ok _)) (other_state BidStands c.try_from.ensures (c.in_default.not-Ok _)))
-
-pub receipt_record-requires : goal.receipt_record-requires
-receipt_record-requires c = (c.requires.encoded, omega (arith, c.requires.high), record_kept _ c.idle_record.ensures)
 
 pub release_to-requires : goal.release_to-requires
 release_to-requires c =

@@ -1,14 +1,11 @@
 -- A lot that a close works: the rule's event there, the record put, and the money that moves.
 -- Assumes nothing.
-use Rattle.std.specs.Prelude.{Result, Ok, Bool, true, false, pos, ◌≡◌, ℕ, ◌+◌, ◌-◌, ◌≤◌, ◌<◌, set}
-use mathlib.Core.List.{List, [], ◌∷◌}
-use Rattle.std.proofs.Math.Path.{refl, sym, ap}
-use Rattle.std.proofs.Common.{◌∙◌, subst}
-use borrow.Author.Tests.{le-leb, lt-leb, ne_eqb}
-use Rattle.std.proofs.Math.Dec.{leb}
+use Rattle.std.specs.Prelude.{Result, Ok, Some, None, Bool, true, false, pos, List, [], ◌∷◌, ◌≡◌, ℕ, ◌+◌, ◌-◌, ◌≤◌, ◌<◌, leb, set}
+use Rattle.std.proofs.Common.{refl, sym, ap, ◌∙◌, subst, le-leb, ne_eqb}
+use Rattle.std.proofs.lemmas.Bool.{lt-leb}
 use Rattle.units.specs.declared.Fen.{Fen}
 use Rattle.units.specs.Payments.{fen, deposit, penalty_passed}
-use Rattle.units.specs.Ranges.{account_count, money_limit}
+use Rattle.units.specs.Ranges.{account_count, money_limit, most_weight}
 use Rattle.zone.specs.declared.Account.{Account}
 use Rattle.zone.specs.declared.Hold.{Hold}
 use Rattle.zone.specs.declared.Lot.TheVariants.{Idle, Settled, PenaltyDue}
@@ -16,6 +13,7 @@ use Rattle.zone.specs.declared.Receipt.{Receipt}
 use Rattle.zone.specs.declared.Record.{Record}
 use Rattle.zone.specs.declared.Zone.{Zone}
 use Rattle.zone.specs.Held.{full, held, hold_of}
+use Rattle.zone.specs.Laws.Facts.{bounds}
 use Rattle.zone.specs.Parts.{with_accounts, with_receipts}
 use Rattle.zone.specs.Record.{record_of, receipt_of, trade_of}
 use Rattle.zone.specs.declared.State.{State}
@@ -25,9 +23,7 @@ use Rattle.zone.specs.State.{state_number, state_of}
 use Rattle.zone.specs.Valid.{record_valid}
 use Rattle.image.specs.Image.{decode, encode, Encoded, Fits}
 use Rattle.image.specs.Laws.RoundTrip.{decode_sized, valid_fits}
-use Rattle.rules.specs.AtLot.{AtLot}
-use Rattle.rules.specs.AtLot.{one_event}
-use Rattle.std.specs.Prelude.{Some, None}
+use Rattle.rules.specs.AtLot.{AtLot, one_event}
 use Rattle.rules.specs.declared.Call.{Call}
 use Rattle.rules.specs.declared.Entry.{Entry}
 use Rattle.rules.specs.Effects.{entry_of, owned_by, with_lot, close_lot, close_lodged, close_struck, close_penalty, day_close_lot, rule_of, rule_at, sweeps}
@@ -41,7 +37,6 @@ use Rattle.rules.specs.View.{free_of, view_of, record_of_receipt}
 use Rattle.events.specs.Laws.Moved.{Moved, ReceiptPut, record_put, record_valid_lem, encoded, released}
 use Rattle.events.specs.Laws.Nothing.{debit_nothing, credit_nothing, release_nothing, freeze_nothing}
 use Rattle.events.specs.Posting.{Postable}
-use Rattle.std.specs.Prelude.{Some, None}
 use Rattle.lots.specs.Laws.Posts.{visit_posts}
 use Rattle.lots.specs.Laws.Visits.{good_decode, rule_by}
 use Rattle.lots.specs.Noted.{Worked}
@@ -100,6 +95,9 @@ module _ {n : ℕ} {s : List ℕ} {f : Record} (D : Due n s f) where
   -- the record is valid, and the buyer's money within its limit
   pub due_valid : record_valid f ≡ true
   due_valid = rw D.read (record_valid_lem (decode s) (valid_fits (decode s) D.at.valid) n)
+
+  pub due_weight : f.weight.0 ≤ most_weight
+  due_weight = (bounds f due_valid).weight
 
   pub buyer_limit : (free_of (decode s).accounts f.buyer).0 ≤ money_limit
   unfolding view_of

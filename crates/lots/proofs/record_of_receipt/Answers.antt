@@ -1,11 +1,11 @@
 -- Who is no receipt has the record of none.
-use Rattle.std.proofs.Common.{false, ◌≡◌, arith, sym, ap, ◌∙◌}
+use Rattle.std.proofs.Common.{false, ◌≡◌, sym, ap, ◌∙◌}
 use Rattle.units.specs.Ranges.{is_receipt, receipt_count}
 use Rattle.zone.specs.Laws.Tests.{InRange, range_in}
 use Rattle.zone.specs.Record.{record_of}
 use Rattle.zone.specs.Valid.{no_receipt}
 use Rattle.image.specs.Image.{decode}
-use Rattle.image.specs.Laws.RoundTrip.{same_long, decode_sized}
+use Rattle.image.specs.Laws.RoundTrip.{decode_sized}
 use Rattle.rules.specs.View.{receipt_of_number}
 use Rattle.events.specs.Laws.Moved.{record_in_place}
 use Rattle.lots.specs.Laws.Past.{nth_outside}
@@ -21,9 +21,6 @@ returns-then-not-is_receipt c =
     let s = c.args.image.now in
     let out : is_receipt c.args.n ≡ false = sym c.is_receipt.ensures ∙ c.if-not-is_receipt.true in
     c.record_of.ensures ∙ sym (ap record_of (nth_outside no_receipt (decode s).receipts c.args.n (rw (decode_sized s).receipts out)))
-
-pub record_at-requires : goal.record_at-requires
-record_at-requires c = (same_long _ c.requires.0, omega (arith, inside (goal.at.record_at-requires c).Else-not-is_receipt))
 
 pub returns : goal.returns
 returns c =

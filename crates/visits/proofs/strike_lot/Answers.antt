@@ -34,9 +34,6 @@ tested c = c.quote_meets.ensures ∙ rw (seen c.before, read c.before.before)
 struck : (c : After-struck_record) → c.struck_record.result ≡ record_of (struck_receipt (view_of (decode c.args.image.now) c.args.c.account (record_of_receipt (decode c.args.image.now) c.args.n)) (record_of_receipt (decode c.args.image.now) c.args.n) (bid_of (record_of_receipt (decode c.args.image.now) c.args.n)))
 struck c = c.struck_record.ensures ∙ rw (seen c.before.before.before.before, read c.before.before.before.before.before)
 
-pub record_at-f-requires : goal.record_at-f-requires
-record_at-f-requires c = (same_long _ c.requires.0.encoded, omega (arith, c.requires.0.high))
-
 pub view_of-v-requires : goal.view_of-v-requires
 view_of-v-requires c = (same_long _ c.requires.0.encoded, rw (read (goal.at.view_of-v-requires c).After-record_at-f) (record_valid_lem _ (valid_fits _ c.requires.0.valid) c.args.n))
 

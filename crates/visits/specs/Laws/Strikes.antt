@@ -1,9 +1,7 @@
 -- A standing bid that is struck moves no money: what its lot held is what it holds.
 -- Assumes nothing.
-use Rattle.std.specs.Prelude.{true, false, ◌≡◌, ℕ, ◌≤◌, ◌<◌}
-use Rattle.std.proofs.Common.{sym, ◌∙◌}
-use Rattle.std.proofs.Math.Path.{ap, subst}
-use borrow.Author.Tests.{eqb-true}
+use Rattle.std.specs.Prelude.{None, true, false, ◌≡◌, ℕ, ◌≤◌, ◌<◌}
+use Rattle.std.proofs.Common.{sym, ap, subst, ◌∙◌, eqb-true}
 use Rattle.units.specs.Payments.{fen, deposit}
 use Rattle.units.specs.Ranges.{receipt_count}
 use Rattle.zone.specs.declared.Hold.{Hold}
@@ -15,7 +13,6 @@ use Rattle.zone.specs.Laws.Tests.{both}
 use Rattle.zone.specs.Parts.{with_receipts}
 use Rattle.zone.specs.Record.{record_of, bid_of}
 use Rattle.rules.specs.AtLot.{one_event}
-use Rattle.std.specs.Prelude.{None}
 use Rattle.rules.specs.declared.Call.{Call}
 use Rattle.rules.specs.declared.Entry.{Entry}
 use Rattle.rules.specs.declared.View.{View}
