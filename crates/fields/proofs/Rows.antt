@@ -1,6 +1,6 @@
 -- The row of a number that was read as a kind, and of one that is no kind's.
 -- Assumes nothing.
-use Rattle.std.proofs.Common.{Ok, Err, ℕ, ◌≡◌, true, false, refl, sym, ap, ◌∙◌, [], eqb, ne_eqb, true≢false}
+use Rattle.std.proofs.Common.{Ok, Err, ℕ, ◌≡◌, true, false, sym, ap, ◌∙◌, [], eqb, ne_eqb, true≢false}
 use Rattle.units.specs.Ranges.{within}
 use Rattle.rules.specs.declared.Kind.{Kind}
 use Rattle.rules.specs.declared.Refusal.{Refusal}

@@ -26,7 +26,7 @@ struct KnownCall {
 // ── One test for each number ────────────────────────────────────────────────────────────────────
 
 // Number 3, or the call with its kind.
-#[tactic(auto, unfolding(rules::specs::Numbers::ill_formed), using(rules::specs::Laws::Numbered::is_kind, rules::specs::Laws::Numbered::read_within, rules::specs::Laws::Numbered::unread_outside,))]
+#[tactic(auto, unfolding(rules::specs::Numbers::ill_formed), using(rules::specs::Laws::Numbered::is_kind, rules::specs::Laws::Numbered::read_within, rules::specs::Laws::Numbered::unread_outside))]
 fn well_formed(c: Call) -> Result<KnownCall, Refusal>
     ensures { MatchResult result (λ known. (known.call ≡ c) × (ill_formed c ≡ false)) (λ refusal. (refusal ≡ BadCall) × (ill_formed c ≡ true)) }
 {
