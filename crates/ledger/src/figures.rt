@@ -45,7 +45,7 @@ fn write_figures(book: &Book, figures: &mut [u8]) {
     page.copy_out(figures, FIGURES_LENGTH);
 }
 
-fn ask(image: &[u8], figures: &mut [u8]) -> Result<(), Refusal> {
+fn find_shortfalls(image: &[u8], figures: &mut [u8]) -> Result<(), Refusal> {
     if figures.len() < FIGURES_LENGTH {
         return Err(Refusal::ShortAnswer);
     }
@@ -56,5 +56,5 @@ fn ask(image: &[u8], figures: &mut [u8]) -> Result<(), Refusal> {
 
 // The number, with the figures written at 0.
 pub fn shortfalls(image: &[u8], figures: &mut [u8]) -> u64 {
-    number(ask(image, figures))
+    number(find_shortfalls(image, figures))
 }

@@ -21,7 +21,7 @@ pub struct Entry {
     pub number: u64,
 }
 
-#[derive(Clone, Copy)]
+#[derive(Drop)]
 pub struct Book {
     columns: [[u64; ROWS]; BOOK_COLUMNS],
     // By lot.
@@ -37,10 +37,10 @@ impl Book {
     }
 
     pub fn set(&mut self, column: u64, row: u64, value: u64) {
-        if let Some(rows) = self.columns.get_mut(column as usize) {
-            if let Some(cell) = rows.get_mut(row as usize) {
-                *cell = value;
-            }
+        if let Some(rows) = self.columns.get_mut(column as usize)
+            && let Some(cell) = rows.get_mut(row as usize)
+        {
+            *cell = value;
         }
     }
 
@@ -90,6 +90,7 @@ impl Cells for Book {
         self.columns
             .get(column as usize)
             .and_then(|rows| rows.get(row as usize))
-            .map_or(0, |cell| *cell)
+            .copied()
+            .unwrap_or(0)
     }
 }

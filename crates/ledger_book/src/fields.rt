@@ -37,7 +37,7 @@ impl Page {
         }
     }
 
-    // The cell of a column, where a page has it.
+    // Sets the cell of a column, where a page has it.
     pub fn set(&mut self, column: u64, row: u64, value: u64) {
         self.put(place_of(column, row), value);
     }

@@ -1,12 +1,12 @@
 // What the cells of an image say, and what lots hold from accounts, counted from the lots themselves.
 use crate::columns::ZONE;
 use crate::numbered::{Phase, State};
-use crate::payments::{DEPOSIT, full_payment, rest_payment};
+use crate::payments::{DEPOSIT, full_payment, rest_payment, unit_price};
 use crate::places::{BASIS, PAID, PHASE, PREMIUM, PRICE, STATE, WEIGHT};
 
 // What has the fields of an image by column and row: the book, or the bytes of a page.
 pub trait Cells {
-    // 0 where there is no such cell.
+    // 0 where book or page end before the cell.
     fn cell(&self, column: u64, row: u64) -> u64;
 
     fn phase(&self) -> Phase {
@@ -21,13 +21,14 @@ pub trait Cells {
         State::try_from(self.cell(STATE, lot)).ok()
     }
 
+    // What a tonne of the lot costs at this price.
+    fn unit_price(&self, lot: u64, price: u64) -> u64 {
+        unit_price(price, self.cell(BASIS, lot), self.cell(PREMIUM, lot))
+    }
+
     fn full_payment(&self, lot: u64) -> u64 {
-        full_payment(
-            self.cell(PRICE, lot),
-            self.cell(BASIS, lot),
-            self.cell(PREMIUM, lot),
-            self.cell(WEIGHT, lot),
-        )
+        let unit_price = self.unit_price(lot, self.cell(PRICE, lot));
+        full_payment(unit_price, self.cell(WEIGHT, lot))
     }
 
     // What the lot holds from its buyer: the deposit up to settlement, then the full payment, then what is unpaid of it (01 Image 15).

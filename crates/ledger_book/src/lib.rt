@@ -12,6 +12,7 @@ mod places;
 mod ranges;
 mod records;
 
+// One by one, for the rule of the layout: `rt fmt` takes groups apart in a file that brings in more than a hundred names.
 pub use call_tables::Answers;
 pub use columns::Book;
 pub use columns::Entry;
@@ -31,7 +32,6 @@ pub use payments::paid_of_rest;
 pub use payments::part_payment;
 pub use payments::signed;
 pub use payments::signed_price;
-pub use payments::unit_price;
 pub use places::ACCOUNT_COUNT;
 pub use places::ACCOUNT_OFFSET;
 pub use places::ACCOUNT_START;

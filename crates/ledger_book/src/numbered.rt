@@ -48,7 +48,7 @@ impl TryFrom<u64> for Kind {
     }
 }
 
-// The state of a lot, in the order in which a trade goes through them.
+// The states of a lot: a trade goes through those from `Listed` to `FirstPaid` in this order.
 #[derive(Clone, Copy, PartialEq, Eq, PartialOrd, Ord)]
 pub enum State {
     Idle,

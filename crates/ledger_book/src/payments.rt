@@ -30,8 +30,8 @@ pub fn unit_price(price: u64, basis: u64, premium: u64) -> u64 {
 }
 
 // Yuan per tonne times kilograms is a tenth of a fen; half a fen is rounded up (01 Money 2, 02 2/12).
-pub fn full_payment(price: u64, basis: u64, premium: u64, weight: u64) -> u64 {
-    product(unit_price(price, basis, premium), weight).wrapping_add(5) / 10
+pub fn full_payment(unit_price: u64, weight: u64) -> u64 {
+    product(unit_price, weight).wrapping_add(5) / 10
 }
 
 // Four fifths, rounded down (01 Money 3).

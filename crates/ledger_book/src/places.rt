@@ -180,6 +180,8 @@ pub const FIGURES_LENGTH: usize = ACCOUNTS as usize * SHORTFALL_END;
 
 // ── Columns ─────────────────────────────────────────────────────────────────────────────────────
 
+// Numbers and no enum: images are read, judged, written and damaged by ranges of them.
+
 // The header's, in the zone's own row.
 pub const ACCOUNT_COUNT: u64 = 0;
 
@@ -378,7 +380,7 @@ pub fn records_of(column: u64) -> u64 {
 }
 
 fn end_in_record(column: u64) -> usize {
-    ENDS.get(column as usize).map_or(0, |end| *end)
+    ENDS.get(column as usize).copied().unwrap_or(0)
 }
 
 fn start_in_record(column: u64, first: u64) -> usize {
@@ -388,7 +390,7 @@ fn start_in_record(column: u64, first: u64) -> usize {
     end_in_record(column.wrapping_sub(1))
 }
 
-// The bytes of a field in the record of a row.
+// The bytes of a field in the record of a row. Row 0, which is nobody's, has those of row 1, as has one from 2^32 + 1 on.
 pub fn place_of(column: u64, row: u64) -> Range<usize> {
     let table = table_of(column);
     let before = product(row.wrapping_sub(1), table.length as u64) as usize;

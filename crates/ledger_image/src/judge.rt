@@ -5,7 +5,7 @@ use ledger_book::{
     FREE, FROZEN, IMAGE_COLUMNS_END, LAST_DAY, LAST_DUE, MOST_DAYS, MOST_TOTAL, OWNER, PAID,
     PENDING, PHASE, PREMIUM, PRICE, RECEIPT_COUNT, RECEIPT_OFFSET, RECEIPT_START, RECEIPTS, SELLER,
     STATE, State, TOTAL, WEALTH, WEIGHT, ZEROS, ZONE, is_account, is_basis, is_contract,
-    is_premium, is_price, is_weight, paid_of_rest, records_of, unit_price,
+    is_premium, is_price, is_weight, paid_of_rest, records_of,
 };
 
 // ── Judge each field by itself ──────────────────────────────────────────────────────────────────
@@ -99,12 +99,7 @@ fn parties_ok(book: &Book, lot: u64) -> bool {
 // From the bid to the last payment there is something to pay.
 fn price_ok(book: &Book, lot: u64) -> bool {
     let priced = book.state(lot).is_some_and(|state| is_filled(PRICE, state));
-    let unit = unit_price(
-        book.cell(PRICE, lot),
-        book.cell(BASIS, lot),
-        book.cell(PREMIUM, lot),
-    );
-    !priced || unit >= 1
+    !priced || book.unit_price(lot, book.cell(PRICE, lot)) >= 1
 }
 
 // Invoices stay within the full payment, and as much of the rest is paid as those confirmed call for.

@@ -1,10 +1,7 @@
 // Bids and quotes (01 Calls 8 to 12, 02 2/12).
 use crate::lots::{at_lot, is_buyer, is_open, is_seller};
 use crate::refuse_unless;
-use ledger_book::{
-    BASIS, Book, Call, Cells, DEPOSIT, PREMIUM, PRICE, Refusal, State, is_contract, is_price,
-    unit_price,
-};
+use ledger_book::{Book, Call, Cells, DEPOSIT, PRICE, Refusal, State, is_contract, is_price};
 
 // What the caller's own standing bid holds counts as free.
 fn money_for_bid(book: &Book, call: &Call) -> u64 {
@@ -18,10 +15,8 @@ fn money_for_bid(book: &Book, call: &Call) -> u64 {
 
 // There is something to pay at this price, and the deposit for it.
 fn at_price(book: &Book, call: &Call, price: u64) -> Result<(), Refusal> {
-    let basis = book.cell(BASIS, call.receipt);
-    let premium = book.cell(PREMIUM, call.receipt);
-    let unit = unit_price(price, basis, premium);
-    refuse_unless(unit >= 1, Refusal::NothingToPay)?;
+    let unit_price = book.unit_price(call.receipt, price);
+    refuse_unless(unit_price >= 1, Refusal::NothingToPay)?;
     refuse_unless(money_for_bid(book, call) >= DEPOSIT, Refusal::NoMoney)
 }
 
