@@ -9,7 +9,8 @@ pub struct Difference {
     pub of_ledger: u64,
 }
 
-// The number that the library returned, and the difference, if there is one.
+// The number that the library returned, and the difference, if there is one. A number and no `Refusal` (d): what a side returns is compared
+// and shown, also where no refusal has it.
 #[derive(Clone, Copy)]
 pub struct Verdict {
     pub number: u64,

@@ -10,7 +10,7 @@ fn may_be(limit: Limit, step: usize) -> bool {
     }
 }
 
-// From the first limit of request 2 on.
+// From the first limit of request 2 on. Summed up by loops, here and below (d): `sum` would owe that the sum fits.
 fn missed_limits(tally: &Tally) -> usize {
     let mut missed = 0usize;
     for limit in LIMITS.iter().skip(Limit::LeastPremium as usize) {

@@ -12,7 +12,7 @@ fn some_place(draws: &mut Draws) -> HeldPlace {
 }
 
 impl Alteration<'_> {
-    // The last lot of a drawn state that holds money, else the first of any state.
+    // The last lot of a drawn state that holds money, else the first of any state. By a loop (d): a chain would go over the lots twice.
     fn some_holder(&mut self) -> Option<u64> {
         let state = self
             .draws
