@@ -8,12 +8,11 @@ use Rattle.zone.specs.Held.{full, held, fen_from, held_from}
 use Rattle.zone.specs.Record.{record_of}
 use Rattle.zone.specs.Valid.{fresh_zone}
 use Rattle.rules.specs.declared.Call.{Call}
-use Rattle.rules.specs.Steps.{Refused, Accepted}
+use Rattle.rules.specs.Steps.{Refused, Accepted, step_at, step_on}
 use Rattle.rules.specs.Effects.{register, list_for, withdraw_listing, limit_bid, market_bid, withdraw_bid, quote_lot, lodge, close_lot, pay_first, send_invoice, confirm, day_close_lot, no_rule, rule_of, opening, first_lot, lot_count, ending, effect}
 use Rattle.rules.specs.Events.{credit, debit, release, freeze, money_of, accounts_after, posted, sweep}
 use Rattle.rules.specs.Numbers.{ill_formed, out_of_range, wrong_phase, wrong_state, wrong_party, not_above, lacks_ask, not_payable, lacks_money, above_limit, above_invoice, first_number}
 use Rattle.rules.specs.Order.{stands_before, put_in, by_price, answer_order}
-use Rattle.rules.specs.Steps.{step_at, step_on}
 use Rattle.rules.specs.Tables.{nth, put}
 use Rattle.rules.specs.View.{free_of, frozen_of, receipt_of_number, ask_of, view_of, record_of_receipt}
 use Rattle.claims.specs.History.{Reply, refused_with, accepted_with}

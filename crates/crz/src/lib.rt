@@ -55,7 +55,7 @@ fn carry(image: &mut [u8], valid: bool, c: Call, answer: &mut [u8]) -> Result<()
     Ok(())
 }
 
-// A call given by its fields, on an image whose verdict is known. The verdict stays beside the image as a flag (reason d): a table is judged
+// A call given by its fields, on an image whose verdict is known. The verdict stays beside the image as a flag: a table is judged
 // once, and each of its calls keeps what was found, so that a struct would only be lent on and taken apart.
 pub fn make_call(image: &mut [u8], valid: bool, c: Call, answer: &mut [u8]) -> u32
     requires { valid ≡ valid_image image.old }

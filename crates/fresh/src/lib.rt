@@ -5,9 +5,8 @@ ghost use Rattle.std.specs.Prelude.{◌≡◌, ◌+◌, ◌*◌, ◌≤◌, ℕ,
 ghost use Rattle.std.proofs.lemmas.List.Edits.{sets};
 ghost use Rattle.zone.specs.Valid.{no_receipt, fresh_zone};
 ghost use Rattle.image.specs.Table.{table_bytes};
-ghost use Rattle.image.specs.Layout.{image_length, account_length, ask_length, receipt_length, account_start, contract_start, receipt_start, phase_place, header_bytes, account_bytes, ask_bytes, receipt_bytes};
+ghost use Rattle.image.specs.Layout.{image_length, account_length, ask_length, receipt_length, phase_place, header_bytes, account_bytes, ask_bytes, receipt_bytes};
 ghost use Rattle.image.specs.Image.{encode};
-ghost use Rattle.image.specs.Laws.Layout.{account_wide, ask_wide, receipt_wide};
 
 use image::{
     ACCOUNT_COUNT_PLACE, ACCOUNT_LENGTH, ACCOUNT_START, ACCOUNT_START_PLACE, ASK_LENGTH,
@@ -78,9 +77,6 @@ trait Item {
 
     ghost bytes: { Self → List ℕ };
 
-    // Each item has as many bytes as any other.
-    ghost wide: { (item : Self) → length (bytes item) ≡ size };
-
     // A function, because a clause of a generic function cannot read an associated constant.
     fn length() -> usize
         ensures { result ≡ size };
@@ -95,8 +91,6 @@ impl Item for Account {
 
     ghost bytes = { account_bytes };
 
-    ghost wide = { account_wide };
-
     fn length() -> usize {
         ACCOUNT_LENGTH
     }
@@ -110,8 +104,6 @@ impl Item for YuanPerTonne {
     ghost size = { ask_length };
 
     ghost bytes = { ask_bytes };
-
-    ghost wide = { ask_wide };
 
     fn length() -> usize {
         ASK_LENGTH
@@ -128,8 +120,6 @@ impl Item for Receipt {
 
     ghost bytes = { receipt_bytes };
 
-    ghost wide = { receipt_wide };
-
     fn length() -> usize {
         RECEIPT_LENGTH
     }
@@ -140,9 +130,10 @@ impl Item for Receipt {
     }
 }
 
-// The items of a table one behind the other, from `start` on.
+// The items of a table one behind the other, from `start` on. Each has as many bytes as any other.
 fn put_table<T: Item + Copy>(image: &mut [u8], start: usize, items: &[T])
-    requires { start + length items.now * T.size ≤ length image.old }
+    requires room { start + length items.now * T.size ≤ length image.old }
+    requires wide { (item : T) → length (T.bytes item) ≡ T.size }
     ensures { image.new ≡ sets image.old start (table_bytes T.bytes items.now) }
 {
     for (i, item) in items.iter().enumerate() {

@@ -100,7 +100,7 @@ fn not_above(c: KnownCall, f: Record) -> bool
     ensures { result ≡ not_above c.call f }
 {
     match c.kind {
-        Kind::LimitBid => c.call.amount <= f.price.0 as u64,
+        Kind::LimitBid => c.call.amount <= u64::from(f.price.0),
         _ => false,
     }
 }

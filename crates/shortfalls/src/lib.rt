@@ -47,11 +47,15 @@ fn owed_when_due(r: Record, state: State) -> Hold
     }
 }
 
+// The state comes first, by its number: it decides for most lots. No valid record has a number that is no state's.
 #[tactic(auto, unfolding(crate::specs::Walk::owed_of))]
 fn owed_of(r: Record, day: u16) -> Hold
     requires { record_valid r ≡ true }
     ensures { result ≡ owed_of day r }
 {
+    if r.state < State::Struck as u8 {
+        return verdict::no_hold();
+    }
     if day < r.due {
         return verdict::no_hold();
     }

@@ -12,7 +12,7 @@ use zone::Record;
 
 // What a call does at the receipt that it names, by its kind. Pay-ins and take-outs concern no lot. Nor does a quote or a close name one:
 // what these do at all lots they do in the image (`visits`).
-#[tactic(auto, unfolding(rules::specs::Effects::rule_of, rules::specs::Effects::no_rule, rules::specs::Effects::withdraw_listing, rules::specs::Effects::quote_lot, rules::specs::Effects::day_close_lot,), using(rules::specs::Laws::Trades::close_none))]
+#[tactic(auto, unfolding(rules::specs::Effects::rule_of, rules::specs::Effects::no_rule, rules::specs::Effects::withdraw_listing, rules::specs::Effects::quote_lot, rules::specs::Effects::day_close_lot), using(rules::specs::Laws::Trades::close_none))]
 fn rule_of(kind: Kind, v: View, c: Call, n: u8, f: Record) -> Option<Event>
     requires kind { c.kind ≡ kind_number kind }
     requires ready { Ready v f }

@@ -194,6 +194,7 @@ pub fn frozen_sums(image: &[u8], valid: &mut [bool]) -> [Fen; ACCOUNTS]
 
 // ── The verdict ─────────────────────────────────────────────────────────────────────────────────
 
+// By `&`: without a branch it becomes vector code.
 fn all_set(marks: &[bool]) -> bool
     ensures { result ≡ all (λ b. b) marks.now }
 {

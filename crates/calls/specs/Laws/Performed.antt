@@ -15,8 +15,8 @@ use Rattle.rules.specs.Kinds.{kind_of}
 use Rattle.rules.specs.Laws.Chain.{path_of, sweep_chain}
 use Rattle.rules.specs.Laws.Good.{Good}
 use Rattle.rules.specs.Laws.Keeps.{opening_good}
-use Rattle.rules.specs.Laws.Kinds.{by_kind}
 use Rattle.rules.specs.Laws.Links.{last_good}
+use Rattle.rules.specs.Laws.Numbered.{unread_outside}
 use Rattle.rules.specs.Laws.Passed.{PassedAt, passed_at, kind_in}
 use Rattle.rules.specs.Laws.Steps.{AcceptedAs, accepted_as}
 use Rattle.rules.specs.Steps.{Accepted, step_on}
@@ -25,28 +25,7 @@ use Rattle.calls.specs.Laws.Lots.{AtReceipt, at_receipt}
 
 -- a number from 1 to 15 is a kind's
 known : (n : ℕ) {r : Refusal} → within 1 15 n ≡ true → kind_of n ≡ Err r → ⊥
-unfolding kind_of
-known n {r} =
-    by_kind {P = λ n. within 1 15 n ≡ true → kind_of n ≡ Err r → ⊥}
-    (record {
-      pay_in = λ h e. cc;
-      take_out = λ h e. cc;
-      register = λ h e. cc;
-      list = λ h e. cc;
-      withdraw_listing = λ h e. cc;
-      limit_bid = λ h e. cc;
-      market_bid = λ h e. cc;
-      withdraw_bid = λ h e. cc;
-      quote = λ h e. cc;
-      lodge = λ h e. cc;
-      morning_close = λ h e. cc;
-      first_payment = λ h e. cc;
-      invoice = λ h e. cc;
-      confirm = λ h e. cc;
-      day_close = λ h e. cc;
-      no_kind = λ k no h e. absurd (true≢false (sym h ∙ no));
-    })
-    n
+known n {r} h e = true≢false (sym h ∙ (unread_outside n r e).1)
 
 module _ (s : List ℕ) (c : Call) (at : AtLot) (v : valid_image s ≡ true) (step : step_on (decode s) c ≡ Accepted at) where
   pub accepted : AcceptedAs (decode s) c at

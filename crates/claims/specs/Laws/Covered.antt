@@ -1,6 +1,6 @@
 -- The morning close and an account that has what is asked of it, or lacks it: on values, lot by lot.
 -- Assumes nothing.
-use Rattle.std.specs.Prelude.{Bool, true, false, cond, ◌&&◌, ◌||◌, List, [], ◌∷◌, ◌++◌, ◌≢◌, ◌≡◌, eqb, leb, length, get_or}
+use Rattle.std.specs.Prelude.{Bool, true, false, cond, ◌&&◌, ◌||◌, List, [], ◌∷◌, ◌++◌, ◌≢◌, ◌≡◌, eqb, leb, length, get_or, Some, None}
 use Rattle.std.proofs.Common.{true≢false, sym, ◌∙◌, subst, add-zero, ne_eqb, eqb-true, leb-false}
 use Rattle.std.proofs.Math.Path.{refl, ap}
 use Prim.Native.Nat.{ℕ, zero, suc, ◌+◌, ◌≤◌, ◌<◌}
@@ -19,9 +19,7 @@ use Rattle.zone.specs.Laws.Held.{fen_from_same, fen_from_other, fen_from_le}
 use Rattle.zone.specs.Laws.Tests.{both, InRange, range_in}
 use Rattle.zone.specs.Record.{record_of, trade_of}
 use Rattle.zone.specs.Valid.{no_receipt}
-use Rattle.rules.specs.AtLot.{AtLot}
-use Rattle.rules.specs.AtLot.{one_event}
-use Rattle.std.specs.Prelude.{Some, None}
+use Rattle.rules.specs.AtLot.{AtLot, one_event}
 use Rattle.rules.specs.declared.Call.{Call}
 use Rattle.rules.specs.declared.Entry.{Entry}
 use Rattle.rules.specs.Effects.{entry_of, owned_by, event_of, has_money, close_lot, rule_of, rule_at}

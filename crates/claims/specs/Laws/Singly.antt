@@ -10,11 +10,9 @@ use Rattle.std.proofs.Math.Seq.{drop-nil, drop-length, drop-append-add}
 use Rattle.zone.specs.declared.Zone.{Zone}
 use Rattle.rules.specs.declared.Call.{Call}
 use Rattle.rules.specs.declared.Entry.{Entry}
-use Rattle.rules.specs.Steps.{Step}
-use Rattle.rules.specs.Steps.{Refused, Accepted}
+use Rattle.rules.specs.Steps.{Step, Refused, Accepted, step_on, step_number, number_on}
 use Rattle.rules.specs.Effects.{effect}
 use Rattle.rules.specs.Events.{Done}
-use Rattle.rules.specs.Steps.{step_on, step_number, number_on}
 use Rattle.image.specs.Image.{valid_image, decode, encode}
 use Rattle.image.specs.Table.{table, run_at}
 use Rattle.answers.specs.Buffers.{call_length, call_in, call_count, call_records, answer_length, answer_number_place, header_of, accepted_bytes, accepted_answer, refused_answer, padded}

@@ -8,10 +8,9 @@ use Rattle.zone.specs.declared.Zone.{Zone}
 use Rattle.zone.specs.Laws.Tests.{both}
 use Rattle.rules.specs.AtLot.{AtLot}
 use Rattle.rules.specs.declared.Call.{Call}
-use Rattle.rules.specs.Steps.{Refused, Accepted}
+use Rattle.rules.specs.Steps.{Refused, Accepted, step_at, step_on, step_number, number_on}
 use Rattle.rules.specs.declared.View.{View}
 use Rattle.rules.specs.Numbers.{first_number, number_rows}
-use Rattle.rules.specs.Steps.{step_at, step_on, step_number, number_on}
 use Rattle.rules.specs.Tables.{first_that_applies}
 
 abbrev from_3 : List (ℕ × Bool) → Bool

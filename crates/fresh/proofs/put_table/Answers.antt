@@ -20,7 +20,7 @@ loop-i-preserved g c =
     ∙ ap (λ (at : ℕ). sets l.image at (m.bytes item)) place
     ∙ ap (λ (s : List ℕ). sets s (c.args.start + l.i * m.size) (m.bytes item)) l.invariant
     ∙ ap (λ (x : _). sets (sets c.args.image.now c.args.start (table_bytes m.bytes (take l.i items))) (c.args.start + l.i * m.size) (m.bytes x)) c.index-items-i.is
-    ∙ put_more m.bytes m.size m.wide c.args.image.now c.args.start items l.i item c.loop-i-test.true
+    ∙ put_more m.bytes m.size c.requires.wide c.args.image.now c.args.start items l.i item c.loop-i-test.true
 
 pub returns : goal.returns
 returns g c = c.loop-i.invariant ∙ rw (take_all c.loop-i.i c.args.items.now c.loop-i-test.false)

@@ -41,3 +41,12 @@ returns c =
     (length_table_bytes account_bytes account_length account_wide z.accounts ∙ ap (λ (n : ℕ). n * account_length) (accounts_long (goal.at.returns c).Start))
     (length_table_bytes ask_bytes ask_length ask_wide z.asks ∙ ap (λ (n : ℕ). n * ask_length) (asks_long (goal.at.returns c).Start))
     (length_table_bytes receipt_bytes receipt_length receipt_wide z.receipts ∙ ap (λ (n : ℕ). n * receipt_length) (receipts_long (goal.at.returns c).Start))
+
+pub put_table-requires-clause-wide : goal.put_table-requires-clause-wide
+put_table-requires-clause-wide c = account_wide
+
+pub put_table-requires-2-clause-wide : goal.put_table-requires-2-clause-wide
+put_table-requires-2-clause-wide c = ask_wide
+
+pub put_table-requires-3-clause-wide : goal.put_table-requires-3-clause-wide
+put_table-requires-3-clause-wide c = receipt_wide
