@@ -24,7 +24,7 @@ impl Verdict {
         };
         Verdict {
             number: of_library,
-            difference: if agree { None } else { Some(difference) },
+            difference: (!agree).then_some(difference),
         }
     }
 
