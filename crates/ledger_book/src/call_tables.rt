@@ -3,7 +3,8 @@ use crate::fields::{Page, field};
 use crate::places::{ANSWER_LENGTH, ANSWERS_LENGTH};
 use std::ops::Range;
 
-// Answers for the longest table that the runs draw, and bytes to spare.
+// Answers for the longest table that the runs draw, and bytes to spare. Not one type with `Page` (d): the two share `filled` alone, and so no
+// answers are taken for a page.
 #[derive(Clone, Copy, PartialEq, Eq)]
 pub struct Answers {
     pub bytes: [u8; ANSWERS_LENGTH],

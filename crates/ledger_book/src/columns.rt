@@ -6,6 +6,8 @@ use crate::places::{ASK, BUYER, COLUMNS, CONTRACT, RECEIPTS, WEALTH};
 // As many rows as the longest table wants.
 const ROWS: usize = RECEIPTS as usize + 1;
 
+// The columns of entries and figures lie unused between those of an image and WEALTH (d): without them `cell` and `set` would have a branch
+// for WEALTH.
 const BOOK_COLUMNS: usize = COLUMNS as usize;
 
 // The row of the header's columns.

@@ -2,7 +2,7 @@
 
 // A number that names none of a type's values.
 #[derive(Clone, Copy, PartialEq, Eq)]
-pub struct UnknownNumber(pub u64);
+pub struct UnknownNumber;
 
 #[derive(Clone, Copy, PartialEq, Eq)]
 pub enum Kind {
@@ -43,7 +43,7 @@ impl TryFrom<u64> for Kind {
             13 => Ok(Kind::Invoice),
             14 => Ok(Kind::Confirm),
             15 => Ok(Kind::DayClose),
-            _ => Err(UnknownNumber(number)),
+            _ => Err(UnknownNumber),
         }
     }
 }
@@ -74,7 +74,7 @@ impl TryFrom<u64> for State {
             5 => Ok(State::Settled),
             6 => Ok(State::FirstPaid),
             7 => Ok(State::PenaltyDue),
-            _ => Err(UnknownNumber(number)),
+            _ => Err(UnknownNumber),
         }
     }
 }
@@ -116,6 +116,30 @@ pub enum Refusal {
     OverLimit,
     OverInvoice,
     BadTable,
+}
+
+impl TryFrom<u64> for Refusal {
+    type Error = UnknownNumber;
+
+    fn try_from(number: u64) -> Result<Refusal, UnknownNumber> {
+        match number {
+            1 => Ok(Refusal::ShortAnswer),
+            2 => Ok(Refusal::BadImage),
+            3 => Ok(Refusal::BadCall),
+            4 => Ok(Refusal::OutOfRange),
+            5 => Ok(Refusal::WrongPhase),
+            6 => Ok(Refusal::WrongState),
+            7 => Ok(Refusal::WrongParty),
+            8 => Ok(Refusal::NotAbove),
+            9 => Ok(Refusal::NoAsk),
+            10 => Ok(Refusal::NothingToPay),
+            11 => Ok(Refusal::NoMoney),
+            12 => Ok(Refusal::OverLimit),
+            13 => Ok(Refusal::OverInvoice),
+            14 => Ok(Refusal::BadTable),
+            _ => Err(UnknownNumber),
+        }
+    }
 }
 
 #[derive(Clone, Copy, PartialEq, Eq)]

@@ -16,6 +16,11 @@ pub fn signed(bits: u64) -> i64 {
     u32::try_from(bits).map_or(0, |bits| i64::from(bits.cast_signed()))
 }
 
+// A number modulo 2^32, as a field of 32 bits takes it.
+pub fn low_bits(x: u64) -> u64 {
+    x % 4294967296
+}
+
 // price + basis + premium. Each of the three has 32 bits, so the sum lies far from 2^63 on either side.
 pub fn signed_price(price: u64, basis: u64, premium: u64) -> i64 {
     price

@@ -3,7 +3,7 @@
 //
 // No other file of the second ledger or of the long runs says a length, a start or a size. A field is known by where it ends in its
 // record; it starts where the one before it ends. The lengths of records and buffers and the starts of tables follow. The fields of an
-// image, of an entry and of the figures are also columns of the book, in the same order.
+// image, of an entry and of the figures also have columns, in the same order. The book fills those of an image, and WEALTH.
 //
 // A field more is one line in each of three lists: where it ends, its column, and the ends by column. A table more is a `Table` besides.
 use crate::payments::product;
@@ -245,7 +245,7 @@ pub const RECEIPT_COLUMNS_END: u64 = PREMIUM + 1;
 
 pub const IMAGE_COLUMNS_END: u64 = RECEIPT_COLUMNS_END;
 
-// What the call's answer lists about a lot; outcome 0 where it lists nothing.
+// What an entry of the call's answer lists about a lot.
 pub const LOT: u64 = IMAGE_COLUMNS_END;
 
 pub const OUTCOME: u64 = LOT + 1;

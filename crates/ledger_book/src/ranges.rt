@@ -1,6 +1,5 @@
 // The ranges that calls and images share (01 Image 15 and 17, 02 2/12), and the last kind, outcome and number that there are.
 use crate::numbered::{Kind, Outcome, Refusal};
-use crate::payments::signed;
 use crate::places::{ACCOUNTS, CONTRACTS, RECEIPTS};
 
 pub const LAST_KIND: u64 = Kind::DayClose as u64;
@@ -9,8 +8,6 @@ pub const LAST_OUTCOME: u64 = Outcome::Penalty as u64;
 
 // The last number of a call. A table of calls has one more of its own (02 5/12).
 pub const LAST_NUMBER: u64 = Refusal::OverInvoice as u64;
-
-pub const BAD_TABLE: u64 = Refusal::BadTable as u64;
 
 pub const LAST_DAY: u64 = 30000;
 
@@ -58,13 +55,17 @@ pub fn is_price(x: u64) -> bool {
     (PRICE_STEP..=MOST_PRICE).contains(&x) && x % PRICE_STEP == 0
 }
 
-// `bits` are those of an i32.
+// Whether `bits` are those of an i32 that lies so far from 0 at most.
+fn is_within(bits: u64, most: u64) -> bool {
+    u32::try_from(bits).is_ok_and(|bits| u64::from(bits.cast_signed().unsigned_abs()) <= most)
+}
+
 pub fn is_basis(bits: u64) -> bool {
-    signed(bits).unsigned_abs() <= MOST_BASIS
+    is_within(bits, MOST_BASIS)
 }
 
 pub fn is_premium(bits: u64) -> bool {
-    signed(bits).unsigned_abs() <= MOST_PREMIUM
+    is_within(bits, MOST_PREMIUM)
 }
 
 pub fn is_weight(x: u64) -> bool {

@@ -3,8 +3,8 @@ use ledger_book::{
     ACCOUNT_COUNT, ACCOUNT_OFFSET, ACCOUNT_START, ACCOUNTS, ASK, BASIS, BUYER, Book, CONFIRMED,
     CONTRACT, CONTRACT_COUNT, CONTRACT_OFFSET, CONTRACT_START, CONTRACTS, Cells, DAY, DAYS, DUE,
     FREE, FROZEN, IMAGE_COLUMNS_END, LAST_DAY, LAST_DUE, MOST_DAYS, MOST_TOTAL, OWNER, PAID,
-    PENDING, PHASE, PREMIUM, PRICE, RECEIPT_COUNT, RECEIPT_OFFSET, RECEIPT_START, RECEIPTS, SELLER,
-    STATE, State, TOTAL, WEALTH, WEIGHT, ZEROS, ZONE, is_account, is_basis, is_contract,
+    PENDING, PHASE, PREMIUM, PRICE, Phase, RECEIPT_COUNT, RECEIPT_OFFSET, RECEIPT_START, RECEIPTS,
+    SELLER, STATE, State, TOTAL, WEALTH, WEIGHT, ZEROS, ZONE, is_account, is_basis, is_contract,
     is_premium, is_price, is_weight, paid_of_rest, records_of,
 };
 
@@ -21,7 +21,7 @@ fn zone_field_ok(column: u64, value: u64) -> bool {
         ACCOUNT_OFFSET => value == ACCOUNT_START as u64,
         CONTRACT_OFFSET => value == CONTRACT_START as u64,
         RECEIPT_OFFSET => value == RECEIPT_START as u64,
-        PHASE => value <= 1,
+        PHASE => value <= Phase::Afternoon as u64,
         ZEROS => value == 0,
         ASK => value == 0 || is_price(value),
         FREE | TOTAL => value <= MOST_TOTAL,

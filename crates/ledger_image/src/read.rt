@@ -36,9 +36,5 @@ pub fn read_image(image: &[u8]) -> Option<Book> {
     let mut book = Book::empty();
     read_columns(&mut book, image);
     count_wealth(&mut book);
-    if is_valid(&mut book) {
-        Some(book)
-    } else {
-        None
-    }
+    is_valid(&mut book).then_some(book)
 }

@@ -9,7 +9,7 @@ use longrun_draws::{TableFault, answers_wanted};
 // ── Rows and columns of the tally ───────────────────────────────────────────────────────────────
 
 #[derive(Clone, Copy)]
-enum TableSize {
+pub enum TableSize {
     NoCall,
     OneCall,
     Fewer,
@@ -132,7 +132,9 @@ pub fn count_table(made: &MadeTable, tally: &mut Tally) {
     count_room(made, tally);
     if made.verdict.is_accepted() {
         count_taken(made, tally);
-    } else if let Some(fault) = made.lengths.fault() {
+    } else {
+        // Without a fault in its lengths no table may be refused: then it counts as one with several.
+        let fault = made.lengths.fault().unwrap_or(TableFault::Several);
         count_fault(made, fault, tally);
     }
 }

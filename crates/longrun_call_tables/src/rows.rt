@@ -1,4 +1,5 @@
 // The rows about tables of calls, and what no table reached.
+use crate::counts::TableSize;
 use ledger_book::{MOST_CALLS, Refusal};
 use longrun_counts::Tally;
 use longrun_tables::numbered_rows;
@@ -6,9 +7,9 @@ use std::io;
 
 // ── What no table reached ───────────────────────────────────────────────────────────────────────
 
-// Tables with too many calls, in the last row, are refused always.
+// Tables with too many calls are refused always.
 fn is_size(row: usize, column: usize) -> bool {
-    row < 4 || column >= 2
+    row != TableSize::TooMany as usize || column >= 2
 }
 
 // An answer in a table is never too short.

@@ -1,6 +1,6 @@
 // Sensible calls: chosen by what the image has, so that lots go through all states.
 use crate::plans::Plan;
-use ledger_book::{CONTRACTS, Cells, DAY, Kind, PHASE, Page, ZONE};
+use ledger_book::{CONTRACTS, Cells, DAY, Kind, Page, Phase, ZONE};
 use longrun_draws::{Draws, Request};
 
 // Chooses a run's next call by the image that it will find.
@@ -40,7 +40,7 @@ impl Chooser<'_> {
 
     // The close that the phase asks for, now and then the other one.
     pub fn close_phase(&mut self) -> Request {
-        let morning = self.image.cell(PHASE, ZONE) == 0;
+        let morning = self.image.phase() == Phase::Morning;
         if morning != self.draws.percent(5) {
             return Request::close(Kind::MorningClose);
         }

@@ -3,7 +3,7 @@ use crate::limits::{Limit, cost_at};
 use crate::tally::Tally;
 use ledger_book::{
     BUYER, CONFIRMED, Cells, FROZEN, OWNER, PAID, PENDING, PREMIUM, PRICE, Page, RECEIPTS, Refusal,
-    State, TOTAL, ZONE, is_premium, paid_of_rest, signed,
+    State, TOTAL, ZONE, is_premium, low_bits, paid_of_rest, signed,
 };
 
 // An altered image that was called on, the valid one that it was made from, and the number that the call returned.
@@ -24,11 +24,8 @@ impl Altered<'_> {
 
     // Whether the lot has a price, and so a tonne of it a cost. The cost is told only where the premium is one.
     fn has_cost(&self, lot: u64) -> bool {
-        let has_price = matches!(
-            self.altered.state(lot),
-            Some(
-                State::BidStands | State::Struck | State::Lodged | State::Settled | State::FirstPaid
-            )
+        let has_price = self.altered.state(lot).is_some_and(
+            |state| (State::BidStands..=State::FirstPaid).contains(&state),
         );
         has_price && is_premium(self.altered.cell(PREMIUM, lot))
     }
@@ -105,7 +102,7 @@ impl Altered<'_> {
             _ => Limit::PaidForSome,
         };
         self.tally
-            .count_limit(limit, signed(more % 4294967296), self.number);
+            .count_limit(limit, signed(low_bits(more)), self.number);
     }
 
     pub fn count_trades(&mut self) {

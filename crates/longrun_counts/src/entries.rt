@@ -94,15 +94,15 @@ impl Tally {
         let equal = strikes_at_one_price(answer);
         let one_price = equal != 0;
         let different = equal.wrapping_add(1) < entries_in(answer);
-        let counts = [
-            (ContractCount::SeveralStruck, true),
-            (ContractCount::AtOnePrice, one_price),
-            (ContractCount::AtDifferentPrices, different),
-            (ContractCount::AtBoth, one_price && different),
-        ];
-        for (what, is_so) in counts {
-            self.add_contract(contract, what, u64::from(is_so));
-        }
+        self.contracts.add_each(
+            contract.wrapping_sub(1),
+            &[
+                (ContractCount::SeveralStruck as u64, true),
+                (ContractCount::AtOnePrice as u64, one_price),
+                (ContractCount::AtDifferentPrices as u64, different),
+                (ContractCount::AtBoth as u64, one_price && different),
+            ],
+        );
     }
 
     fn count_quote(&mut self, contract: u64, answer: &Page) {

@@ -80,7 +80,7 @@ impl Tally {
 
     // The premium that the record of a registration has.
     fn count_registration(&mut self, made: &Made) {
-        let premium = signed(made.request.basis % 4294967296);
+        let premium = signed(made.request.basis_bits());
         self.count_limit(Limit::LeastPremium, premium, made.verdict.number);
         self.count_limit(Limit::HighestPremium, premium, made.verdict.number);
     }

@@ -25,7 +25,7 @@ impl Verdict {
         };
         Verdict {
             number: of_library,
-            difference: if agree { None } else { Some(difference) },
+            difference: (!agree).then_some(difference),
         }
     }
 

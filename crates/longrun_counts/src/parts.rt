@@ -25,18 +25,17 @@ impl Tally {
         let is_last = confirmed.wrapping_add(invoice) == full;
         let part = made.answer.cell(NUMBER, 1);
         let more = part.wrapping_sub(paid_of_rest(full, invoice));
-        let counts = [
-            (PartCount::All, true),
-            (PartCount::OfOneFen, invoice == 1),
-            (PartCount::AfterOthers, confirmed != 0),
-            (PartCount::PaidNothing, part == 0),
-            (PartCount::PaidShare, more == 0),
-            (PartCount::PaidFenMore, more == 1),
-            (PartCount::PaidOther, more > 1),
-        ];
-        for (what, is_so) in counts {
-            self.parts
-                .add_many(u64::from(is_last), what as u64, u64::from(is_so));
-        }
+        self.parts.add_each(
+            u64::from(is_last),
+            &[
+                (PartCount::All as u64, true),
+                (PartCount::OfOneFen as u64, invoice == 1),
+                (PartCount::AfterOthers as u64, confirmed != 0),
+                (PartCount::PaidNothing as u64, part == 0),
+                (PartCount::PaidShare as u64, more == 0),
+                (PartCount::PaidFenMore as u64, more == 1),
+                (PartCount::PaidOther as u64, more > 1),
+            ],
+        );
     }
 }

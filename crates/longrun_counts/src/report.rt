@@ -21,10 +21,6 @@ impl<R: Print> Report<'_, R> {
         }
     }
 
-    pub fn tally(&mut self) -> &mut Tally {
-        self.tally
-    }
-
     // Counts a difference; whether it is one of the first five, which are shown.
     fn count_difference(&mut self) -> bool {
         self.tally.differences = self.tally.differences.wrapping_add(1);

@@ -23,6 +23,13 @@ impl<const COLUMNS: usize> CountRow<COLUMNS> {
         self.add_many(column, 1);
     }
 
+    // One more in each column of which this is so.
+    pub fn add_each(&mut self, counts: &[(u64, bool)]) {
+        for (column, is_so) in counts {
+            self.add_many(*column, u64::from(*is_so));
+        }
+    }
+
     pub fn total(&self) -> u64 {
         self.counts
             .iter()
@@ -77,6 +84,12 @@ impl<const ROWS: usize, const COLUMNS: usize> Counts<ROWS, COLUMNS> {
 
     pub fn add(&mut self, row: u64, column: u64) {
         self.add_many(row, column, 1);
+    }
+
+    pub fn add_each(&mut self, row: u64, counts: &[(u64, bool)]) {
+        if let Some(row) = self.rows.get_mut(row as usize) {
+            row.add_each(counts);
+        }
     }
 
     fn count(&self, row: usize, column: usize) -> u64 {

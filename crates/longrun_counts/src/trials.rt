@@ -66,10 +66,10 @@ impl<const ROWS: usize> TrialTable<ROWS> {
     }
 
     pub fn count(&mut self, row: u64, column: u64, number: u64, refusal: Refusal) {
-        if let Some(trials) = self.rows.get_mut(row as usize) {
-            if let Some(trials) = trials.get_mut(column as usize) {
-                trials.count(number, refusal);
-            }
+        if let Some(trials) = self.rows.get_mut(row as usize)
+            && let Some(trials) = trials.get_mut(column as usize)
+        {
+            trials.count(number, refusal);
         }
     }
 }

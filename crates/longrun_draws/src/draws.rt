@@ -1,6 +1,6 @@
 // Random numbers: xorshift with 64 bits. A seed means one run, on every machine.
 
-// Not a generator of the kit (a): they draw other numbers, and what the runs print may not change.
+// Not a generator of the standard library (a): they draw other numbers, and what the runs print may not change.
 #[derive(Clone, Copy)]
 pub struct Draws {
     state: u64,

@@ -1,6 +1,6 @@
 // A call to be made.
 use crate::lengths::Lengths;
-use ledger_book::Kind;
+use ledger_book::{Kind, low_bits};
 
 // A call by its fields, each of which may have any value, with the lengths of the buffers that it lends. `basis` is a premium where a receipt
 // is registered.
@@ -45,6 +45,7 @@ impl Request {
         Request::new(kind, 0, 0, 0)
     }
 
+    // By the whole field, and not the byte that the record of a wild call has (a): what is printed counts it so.
     pub fn kind(&self) -> Option<Kind> {
         Kind::try_from(self.kind).ok()
     }
@@ -56,5 +57,10 @@ impl Request {
 
     pub fn lot(&self) -> u64 {
         self.receipt % 256
+    }
+
+    // The 32 bits of basis or premium that the call record has.
+    pub fn basis_bits(&self) -> u64 {
+        low_bits(self.basis)
     }
 }

@@ -1,7 +1,7 @@
 // What an asking has reached.
 use crate::owing::{Owing, due_lot};
 use ledger_book::{
-    ACCOUNTS, Cells, DAY, DUE, FIGURES_LENGTH, IMAGE_LENGTH, PHASE, Page, RECEIPTS, ZONE,
+    ACCOUNTS, Cells, DAY, DUE, FIGURES_LENGTH, IMAGE_LENGTH, Page, Phase, RECEIPTS, ZONE,
 };
 use longrun_counts::{Asked, Tally};
 
@@ -37,7 +37,7 @@ fn figures_room(room: u64) -> FiguresRoom {
 
 // In the order of the tally's rows.
 #[derive(Clone, Copy)]
-enum AskedImage {
+pub enum AskedImage {
     ValidInMorning,
     ValidInAfternoon,
     OfOtherLength,
@@ -46,7 +46,7 @@ enum AskedImage {
 }
 
 fn is_afternoon(image: &Page) -> bool {
-    image.cell(PHASE, ZONE) != 0
+    image.phase() == Phase::Afternoon
 }
 
 fn asked_image(image: &Page, image_length: u64, bad: bool) -> AskedImage {
@@ -120,7 +120,7 @@ pub fn count_lots(image: &Page, tally: &mut Tally) -> Owing {
 
 // In the order of the tally's rows.
 #[derive(Clone, Copy)]
-enum OwingRow {
+pub enum OwingRow {
     LacksMoney,
     HasEnough,
     NothingTaken,
@@ -138,16 +138,16 @@ enum ShortCount {
 
 fn count_figure(figure: u64, below_deposit: bool, account: u64, tally: &mut Tally) {
     let is_short = figure != 0;
-    let counts = [
-        (ShortCount::OneFen, figure == 1),
-        (ShortCount::BelowDeposit, is_short && below_deposit),
-        (ShortCount::FirstAccount, is_short && account == 1),
-        (ShortCount::LastAccount, is_short && account == ACCOUNTS),
-        (ShortCount::AboveU32, figure > 4294967295),
-    ];
-    for (what, is_so) in counts {
-        tally.short.add_many(what as u64, u64::from(is_so));
-    }
+    tally.short.add_each(&[
+        (ShortCount::OneFen as u64, figure == 1),
+        (ShortCount::BelowDeposit as u64, is_short && below_deposit),
+        (ShortCount::FirstAccount as u64, is_short && account == 1),
+        (
+            ShortCount::LastAccount as u64,
+            is_short && account == ACCOUNTS,
+        ),
+        (ShortCount::AboveU32 as u64, figure > 4294967295),
+    ]);
 }
 
 fn count_account(image: &Page, owing: &Owing, account: u64, tally: &mut Tally) {

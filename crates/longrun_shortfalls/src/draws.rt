@@ -2,7 +2,7 @@
 use crate::owing::{DueLot, due_lot};
 use ledger_book::{
     ACCOUNTS, BUYER, Cells, DAY, DEPOSIT, FIGURES_LENGTH, FREE, FROZEN, IMAGE_LENGTH, LAST_DAY,
-    MOST_DAYS, MOST_PRICE, PAGE_LENGTH, PHASE, PRICE, Page, RECEIPTS, SELLER, TOTAL, ZONE,
+    MOST_DAYS, MOST_PRICE, PAGE_LENGTH, PHASE, PRICE, Page, Phase, RECEIPTS, SELLER, TOTAL, ZONE,
 };
 use longrun_calls::Plan;
 use longrun_draws::{Draws, raise};
@@ -95,9 +95,9 @@ impl Variation<'_> {
     // Mostly a morning.
     fn set_phase(&mut self) {
         match self.draws.below(100) {
-            0..=59 => self.image.set(PHASE, ZONE, 0),
+            0..=59 => self.image.set(PHASE, ZONE, Phase::Morning as u64),
             60..=89 => {}
-            _ => self.image.set(PHASE, ZONE, 1),
+            _ => self.image.set(PHASE, ZONE, Phase::Afternoon as u64),
         }
     }
 

@@ -1,4 +1,5 @@
 // The rows about shortfalls, and what no asking reached.
+use crate::counts::{AskedImage, OwingRow};
 use crate::owing::OwingClass;
 use ledger_book::Refusal;
 use longrun_counts::Tally;
@@ -7,20 +8,20 @@ use std::io;
 
 // ── What no asking reached ──────────────────────────────────────────────────────────────────────
 
-// A valid image, as the first two rows have it, is not bad, and a bad one has no figures.
+// A valid image, as the rows up to that of an afternoon have it, is not bad, and a bad one has no figures.
 fn is_number(row: usize, number: usize) -> bool {
-    let valid = row < 2;
+    let valid = row <= AskedImage::ValidInAfternoon as usize;
     number == Refusal::ShortAnswer as usize || (number == 0) == valid
 }
 
-// Where nothing is taken, in the last row, no lot has a penalty.
+// Where nothing is taken no lot has a penalty.
 fn is_owing(row: usize, class: usize) -> bool {
     let penalties = [
         OwingClass::OnePenalty as usize,
         OwingClass::SeveralPenalties as usize,
         OwingClass::TradesAndPenalties as usize,
     ];
-    row < 2 || !penalties.contains(&class)
+    row != OwingRow::NothingTaken as usize || !penalties.contains(&class)
 }
 
 // Counts that are 0 and must not be, or the other way round.

@@ -1,7 +1,7 @@
 // One table of calls on both sides (02 5/12).
-use crate::buffers::filled_answers;
+use crate::buffers::{filled_answers, lent, lent_mut};
 use crate::sides::Sides;
-use ledger_book::{ANSWERS_LENGTH, Answers, Kind, PAGE_LENGTH, Page, Refusal};
+use ledger_book::{Answers, Kind, Page, Refusal};
 use longrun_counts::MadeTable;
 use longrun_draws::{Lengths, Request};
 
@@ -29,8 +29,10 @@ impl MadeAlone {
 impl Sides {
     // Whether a call on so many bytes of the image has number 2. One of no kind has 3 on a valid image.
     fn is_bad_image(&self, length: u64) -> bool {
-        let mut request = Request::close(Kind::PayIn);
-        request.kind = 0;
+        let mut request = Request {
+            kind: 0,
+            ..Request::close(Kind::DayClose)
+        };
         request.lengths.image = length;
         let made = Sides::on(&self.image).drive(request);
         made.verdict.is_refused_by(Refusal::BadImage)
@@ -43,18 +45,16 @@ impl Sides {
         let bad_image = self.is_bad_image(lengths.image);
         let mut answers = filled_answers();
         let mut other = filled_answers();
-        let image_end = PAGE_LENGTH.min(lengths.image as usize);
-        let answers_end = ANSWERS_LENGTH.min(lengths.answers as usize);
-        let calls = &wanted.records.bytes[..PAGE_LENGTH.min(lengths.calls as usize)];
+        let calls = lent(&wanted.records.bytes, lengths.calls);
         let number = u64::from(crz::crz_table(
-            &mut self.image.bytes[..image_end],
+            lent_mut(&mut self.image.bytes, lengths.image),
             calls,
-            &mut answers.bytes[..answers_end],
+            lent_mut(&mut answers.bytes, lengths.answers),
         ));
         let of_ledger = ledger::table(
-            &mut self.second.bytes[..image_end],
+            lent_mut(&mut self.second.bytes, lengths.image),
             calls,
-            &mut other.bytes[..answers_end],
+            lent_mut(&mut other.bytes, lengths.answers),
         );
         let alike = number == of_ledger && self.image == self.second && answers == other;
         let right = wanted.as_must_be(number, &before, &self.image, &answers);

@@ -1,6 +1,6 @@
 // The figures of shortfalls on both sides (02 6/12). The image is lent for reading: no side can change it.
-use crate::buffers::{filled, is_filled};
-use ledger_book::{FIGURES_LENGTH, PAGE_LENGTH, Page, Refusal};
+use crate::buffers::{filled, is_filled, lent, lent_mut};
+use ledger_book::{FIGURES_LENGTH, Page, Refusal};
 use longrun_counts::{Asked, Verdict};
 
 // Whatever both sides agree on: too few bytes have number 1, and no others; nothing is written at 1 and 2, nor past the figures.
@@ -17,10 +17,9 @@ fn as_must_be(number: u64, room: u64, figures: &Page) -> bool {
 pub fn ask_shortfalls(image: &Page, image_length: u64, room: u64) -> Asked {
     let mut figures = filled();
     let mut other = filled();
-    let lent = &image.bytes[..PAGE_LENGTH.min(image_length as usize)];
-    let end = PAGE_LENGTH.min(room as usize);
-    let number = u64::from(crz::crz_shortfalls(lent, &mut figures.bytes[..end]));
-    let of_ledger = ledger::shortfalls(lent, &mut other.bytes[..end]);
+    let image = lent(&image.bytes, image_length);
+    let number = u64::from(crz::crz_shortfalls(image, lent_mut(&mut figures.bytes, room)));
+    let of_ledger = ledger::shortfalls(image, lent_mut(&mut other.bytes, room));
     let agree = number == of_ledger && figures == other && as_must_be(number, room, &figures);
     Asked {
         image_length,

@@ -1,10 +1,10 @@
 // One call on both sides.
-use crate::buffers::{filled, is_filled};
+use crate::buffers::{filled, is_filled, lent, lent_mut};
 use crate::sides::Sides;
 use ledger_book::{
     ANSWER_LENGTH, CALL_ACCOUNT_END, CALL_AMOUNT_END, CALL_BASIS_END, CALL_CONTRACT_END,
     CALL_DAYS_END, CALL_KIND_END, CALL_RECEIPT_END, CALL_WEIGHT_END, CALL_ZEROS_END, LAST_NUMBER,
-    PAGE_LENGTH, Page,
+    Page, Refusal,
 };
 use longrun_counts::Made;
 use longrun_draws::Request;
@@ -27,11 +27,9 @@ pub fn record_of(request: &Request) -> Page {
 // What document 01 leaves as it was, whatever both sides agree on: the image after a refusal, the answer past its length, and all of
 // it at number 1.
 fn left_alone(number: u64, before: &Page, image: &Page, answer: &Page) -> bool {
-    match number {
-        0 => is_filled(answer, ANSWER_LENGTH),
-        1 => is_filled(answer, 0) && before == image,
-        _ => is_filled(answer, ANSWER_LENGTH) && before == image,
-    }
+    let is_short = number == Refusal::ShortAnswer as u64;
+    let written = if is_short { 0 } else { ANSWER_LENGTH };
+    is_filled(answer, written) && (number == 0 || before == image)
 }
 
 impl Sides {
@@ -41,18 +39,17 @@ impl Sides {
         let record = record_of(&request);
         let mut answer = filled();
         let mut other = filled();
-        let image_end = PAGE_LENGTH.min(request.lengths.image as usize);
-        let answer_end = PAGE_LENGTH.min(request.lengths.answers as usize);
-        let call = &record.bytes[..PAGE_LENGTH.min(request.lengths.calls as usize)];
+        let lengths = request.lengths;
+        let call = lent(&record.bytes, lengths.calls);
         let number = u64::from(crz::crz_call(
-            &mut self.image.bytes[..image_end],
+            lent_mut(&mut self.image.bytes, lengths.image),
             call,
-            &mut answer.bytes[..answer_end],
+            lent_mut(&mut answer.bytes, lengths.answers),
         ));
         let of_ledger = ledger::call(
-            &mut self.second.bytes[..image_end],
+            lent_mut(&mut self.second.bytes, lengths.image),
             call,
-            &mut other.bytes[..answer_end],
+            lent_mut(&mut other.bytes, lengths.answers),
         );
         let alike = number == of_ledger && self.image == self.second && answer == other;
         let right = number <= LAST_NUMBER && left_alone(number, &before, &self.image, &answer);

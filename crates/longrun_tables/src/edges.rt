@@ -1,5 +1,5 @@
 // What requests 2 to 4 of document 02 have at their edges and no call reached.
-use longrun_counts::{LIMITS, Limit, PartCount, Tally};
+use longrun_counts::{LIMITS, Limit, PartCount, Tally, Trials};
 
 // Of the limits of request 2, two end a range and the others begin one; request 3 leaves one number.
 fn may_be(limit: Limit, step: usize) -> bool {
@@ -10,19 +10,22 @@ fn may_be(limit: Limit, step: usize) -> bool {
     }
 }
 
-// From the first limit of request 2 on. Summed up by loops, here and below (d): `sum` would owe that the sum fits.
+fn missed_steps(tally: &Tally, limit: Limit) -> usize {
+    tally
+        .limits
+        .row(limit as u64)
+        .iter()
+        .enumerate()
+        .filter(|(step, trials)| trials.is_missed(may_be(limit, *step)))
+        .count()
+}
+
+// From the first limit of request 2 on.
 fn missed_limits(tally: &Tally) -> usize {
-    let mut missed = 0usize;
-    for limit in LIMITS.iter().skip(Limit::LeastPremium as usize) {
-        let trials = tally.limits.row(*limit as u64);
-        let steps = trials
-            .iter()
-            .enumerate()
-            .filter(|(step, trials)| trials.is_missed(may_be(*limit, *step)))
-            .count();
-        missed = missed.wrapping_add(steps);
-    }
-    missed
+    LIMITS.iter().skip(Limit::LeastPremium as usize).fold(
+        0,
+        |missed, limit| missed.wrapping_add(missed_steps(tally, *limit)),
+    )
 }
 
 // Whether an invoice can be counted there: a lot's last one, in the second row, pays something, and every one its own share of the rest or
@@ -32,14 +35,19 @@ fn is_part(row: usize, what: usize) -> bool {
     what != PartCount::PaidOther as usize && !(is_last && what == PartCount::PaidNothing as usize)
 }
 
+fn missed_places(places: &[Trials]) -> usize {
+    places
+        .iter()
+        .filter(|trials| trials.is_missed(false))
+        .count()
+}
+
 // No image in which what a lot holds is elsewhere is valid.
 fn missed_holders(tally: &Tally) -> usize {
-    let mut missed = 0usize;
-    for places in tally.holders.rows() {
-        let in_row = places.iter().filter(|trials| trials.is_missed(false));
-        missed = missed.wrapping_add(in_row.count());
-    }
-    missed
+    tally.holders.rows().iter().fold(
+        0,
+        |missed, places| missed.wrapping_add(missed_places(places)),
+    )
 }
 
 pub fn missed_edges(tally: &Tally) -> usize {

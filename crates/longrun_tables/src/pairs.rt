@@ -4,24 +4,6 @@ use ledger_book::{Kind, Refusal};
 use longrun_counts::{NUMBERS, Tally};
 use std::io;
 
-// What a call's number says.
-const ANSWERS: [Option<Refusal>; NUMBERS] = [
-    None,
-    Some(Refusal::ShortAnswer),
-    Some(Refusal::BadImage),
-    Some(Refusal::BadCall),
-    Some(Refusal::OutOfRange),
-    Some(Refusal::WrongPhase),
-    Some(Refusal::WrongState),
-    Some(Refusal::WrongParty),
-    Some(Refusal::NotAbove),
-    Some(Refusal::NoAsk),
-    Some(Refusal::NothingToPay),
-    Some(Refusal::NoMoney),
-    Some(Refusal::OverLimit),
-    Some(Refusal::OverInvoice),
-];
-
 // Whether a call of this kind can be refused so.
 fn can_be_refused(kind: Kind, refusal: Refusal) -> bool {
     let is_close = matches!(kind, Kind::MorningClose | Kind::DayClose);
@@ -46,7 +28,7 @@ fn can_be_refused(kind: Kind, refusal: Refusal) -> bool {
 // Whether a call of the row's kind can return the number: document 01's table of numbers (01 Answers 12 to 24), with the kinds whose brackets
 // are empty or have no receipt left out (01 Calls 4 to 25). A call of no kind is refused by the first three.
 fn is_possible(row: usize, number: usize) -> bool {
-    let refusal = ANSWERS.get(number).copied().flatten();
+    let refusal = Refusal::try_from(number as u64).ok();
     match (Kind::try_from(row as u64).ok(), refusal) {
         (Some(kind), Some(refusal)) => can_be_refused(kind, refusal),
         (Some(_), None) => true,

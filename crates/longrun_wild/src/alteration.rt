@@ -42,10 +42,10 @@ impl Alteration<'_> {
 
     // The lot that it concerns, or one that the next call may go to.
     fn put_out_of_place(&mut self) -> u64 {
-        if self.draws.percent(15) {
-            if let Some(lot) = self.misplace() {
-                return lot;
-            }
+        if self.draws.percent(15)
+            && let Some(lot) = self.misplace()
+        {
+            return lot;
         }
         self.damage()
     }

@@ -1,14 +1,11 @@
 // What a lot holds, put elsewhere: the records stay as they are and the total agrees, so that the frozen sums alone decide (02 4/12).
 use crate::alteration::Alteration;
 use ledger_book::{Cells, RECEIPTS, STATE, State};
-use longrun_draws::{Draws, HeldPlace, move_held};
+use longrun_draws::{Draws, HELD_PLACES, HeldPlace, move_held};
 
 fn some_place(draws: &mut Draws) -> HeldPlace {
-    match draws.below(3) {
-        0 => HeldPlace::Seller,
-        1 => HeldPlace::AccountBefore,
-        _ => HeldPlace::Free,
-    }
+    let k = draws.below(HELD_PLACES.len() as u64) as usize;
+    HELD_PLACES.get(k).copied().unwrap_or(HeldPlace::Free)
 }
 
 impl Alteration<'_> {
@@ -18,15 +15,13 @@ impl Alteration<'_> {
             .draws
             .between(State::BidStands as u64, State::FirstPaid as u64);
         let first = self.draws.below(RECEIPTS);
-        let mut found = None;
-        for k in 0..RECEIPTS {
-            let lot = first.wrapping_add(k) % RECEIPTS + 1;
-            let is_wanted = found.is_none() || self.image.cell(STATE, lot) == state;
-            if is_wanted && self.image.held(lot) != 0 {
-                found = Some(lot);
-            }
-        }
-        found
+        (0..RECEIPTS)
+            .map(|k| first.wrapping_add(k) % RECEIPTS + 1)
+            .filter(|lot| self.image.held(*lot) != 0)
+            .fold(None, |found, lot| match found {
+                Some(_) if self.image.cell(STATE, lot) != state => found,
+                _ => Some(lot),
+            })
     }
 
     // Now and then the last lot. The lot whose money is moved, where one holds any.

@@ -4,7 +4,7 @@ use crate::odd::edge;
 use ledger_book::{
     ACCOUNTS, ASK, BASIS, BUYER, CONFIRMED, CONTRACT, CONTRACTS, Cells, DAY, DUE, LAST_DAY,
     LAST_DUE, LEAST_WEIGHT, MOST_PREMIUM, MOST_TOTAL, MOST_WEIGHT, OWNER, PAID, PENDING, PREMIUM,
-    PRICE, SELLER, WEIGHT, is_premium, paid_of_rest,
+    PRICE, SELLER, WEIGHT, is_premium, low_bits, paid_of_rest,
 };
 use longrun_draws::Draws;
 
@@ -18,7 +18,7 @@ fn range_edge(draws: &mut Draws, first: u64, last: u64) -> u64 {
 
 // What leaves next to nothing to pay for a tonne, mostly where that is a premium; else an end of the range or a number beside it.
 fn premium_edge(draws: &mut Draws, price: u64, basis: u64) -> u64 {
-    let least = draws.to_nothing(price, basis) % 4294967296;
+    let least = low_bits(draws.to_nothing(price, basis));
     let is_least = draws.percent(80);
     if is_least && is_premium(least) {
         return least;
