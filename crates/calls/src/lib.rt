@@ -121,6 +121,7 @@ pub fn perform(image: &mut [u8], c: Call, at: Option<Event>, answer: &mut [u8]) 
     requires { (valid_image image.old ≡ true) × (step_on (decode image.old) c ≡ Accepted at) × (answer_length ≤ length answer.old) }
     ensures { (image.new ≡ encode (effect (decode image.old) c).zone) × ((result, answer.new) ≡ listed (effect (decode image.old) c).entries answer.old) }
 {
+    // An accepted call is of a kind.
     let Ok(kind) = Kind::try_from(c.kind) else {
         unreachable!()
     };

@@ -139,6 +139,7 @@ pub fn close_lot(image: &mut [u8], n: u8) -> Option<Entry>
     if image::day_in(image) < f.due {
         return None;
     }
+    // The record is valid, so that its number is a state's; one that were none has no event.
     let Ok(state) = State::try_from(f.state) else {
         return None;
     };
@@ -152,7 +153,7 @@ pub fn close_lot(image: &mut [u8], n: u8) -> Option<Entry>
 
 // ── The day close ───────────────────────────────────────────────────────────────────────────────
 
-// A listing ends, with the bid that stands on it.
+// A listing ends, with the bid that stands on it. Where none stands the buyer is nobody, from whom nothing is freed.
 pub fn end_offer(image: &mut [u8], n: u8) -> Option<Entry>
     requires { Visited n image.old }
     ensures { Closed 15 n image.old image.new result }

@@ -130,7 +130,7 @@ impl Item for Receipt {
     }
 }
 
-// The items of a table one behind the other, from `start` on. Each has as many bytes as any other.
+// The items of a table one behind the other, from `start` on, each with as many bytes as any other. An item's place is its index times that.
 fn put_table<T: Item + Copy>(image: &mut [u8], start: usize, items: &[T])
     requires room { start + length items.now * T.size ≤ length image.old }
     requires wide { (item : T) → length (T.bytes item) ≡ T.size }

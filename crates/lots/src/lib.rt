@@ -111,6 +111,7 @@ pub fn next_concerned(image: &[u8], c: Call, k: usize) -> Option<usize>
     requires { Encoded image.now × (valid_zone (decode image.now) ≡ true) × (sweeps c.kind ≡ true) × (k ≤ receipt_count) }
     ensures { FirstFrom c (decode image.now) k result }
 {
+    // A call that goes through all lots is of a kind.
     let Ok(kind) = Kind::try_from(c.kind) else {
         unreachable!()
     };

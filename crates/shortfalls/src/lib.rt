@@ -82,7 +82,8 @@ fn owed_sums(image: &[u8], day: u16) -> [Fen; ACCOUNTS]
 
 // ── The figures ─────────────────────────────────────────────────────────────────────────────────
 
-// In a morning: what an account owes, less its free money.
+// In a morning: what an account owes, less its free money. The figures are put by index: after `chunks_exact_mut` a proof knows their length
+// alone.
 fn put_morning_figures(image: &[u8], figures: &mut [u8])
     requires { (valid_image image.now ≡ true) × (afternoon_in image.now ≡ false) × (figures_length ≤ length figures.old) }
     ensures { figures.new ≡ sets figures.old 0 (figure_bytes (decode image.now)) }

@@ -129,6 +129,7 @@ fn registered_ok(image: &[u8], k: usize) -> bool
     if !validity::kept_ok(image::record_at(image, k)) {
         return false;
     }
+    // `kept_ok` leaves no other number.
     let Ok(state) = State::try_from(image::state_at(image, k)) else {
         unreachable!()
     };

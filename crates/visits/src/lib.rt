@@ -28,6 +28,7 @@ pub fn work_lot(image: &mut [u8], c: Call, n: u8) -> Option<Entry>
     requires { Visited n image.old × (sweeps c.kind ≡ true) }
     ensures { Worked c n image.old image.new result }
 {
+    // A call that goes through all lots is of a kind, and of one of these three.
     let Ok(kind) = Kind::try_from(c.kind) else {
         unreachable!()
     };
