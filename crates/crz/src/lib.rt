@@ -5,7 +5,7 @@ ghost use Rattle.std.specs.Prelude.{true, ◌≡◌, ◌*◌, ◌≤◌, length}
 ghost use Rattle.std.specs.Result.{OnErr};
 ghost use Rattle.image.specs.Image.{valid_image, decode, encode};
 ghost use Rattle.rules.specs.Effects.{effect};
-ghost use Rattle.rules.specs.Kinds.{returned};
+ghost use Rattle.rules.specs.Kinds.{refusal_number, returned};
 ghost use Rattle.rules.specs.Steps.{step_on, Accepted};
 ghost use Rattle.answers.specs.Buffers.{answer_length, accepted_answer, cleared};
 ghost use Rattle.crz.specs.CallTable.{in_turn, table_fits, table_entry};
@@ -18,13 +18,19 @@ use image::IMAGE_LENGTH;
 use rules::{Call, Event, Refusal};
 use shortfalls::FIGURES_LENGTH;
 
+fn number(refusal: Refusal) -> u8
+    ensures { result ≡ refusal_number refusal }
+{
+    refusal as u8
+}
+
 // What an entry returns: the number of its refusal, 0 where there is none.
 fn returned(done: Result<(), Refusal>) -> u32
     ensures { result ≡ returned done }
 {
     match done {
         Ok(()) => 0,
-        Err(refusal) => refusal as u32,
+        Err(refusal) => u32::from(number(refusal)),
     }
 }
 
@@ -66,7 +72,7 @@ pub fn make_call(image: &mut [u8], valid: bool, c: Call, answer: &mut [u8]) -> u
     }
     match carry(image, valid, c, answer) {
         Ok(()) => 0,
-        Err(refusal) => answers::refuse(answer, refusal as u8),
+        Err(refusal) => answers::refuse(answer, number(refusal)),
     }
 }
 

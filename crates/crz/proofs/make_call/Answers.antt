@@ -16,4 +16,4 @@ refuse-requires c =
     (search rules, ap cleared zeros ∙ cleared_twice c.args.answer.now c.if-answer-lt-ANSWER_LENGTH.false ∙ sym zeros)
 
 pub returns-in-Err : goal.returns-in-Err
-returns-in-Err c = rw (c.refuse.ensures.0, c.refuse.ensures.1) c.in-Err.ensures.left
+returns-in-Err c = rw (c.refuse.ensures.0, c.refuse.ensures.1, c.number.ensures) c.in-Err.ensures.left
