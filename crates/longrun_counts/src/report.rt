@@ -21,6 +21,11 @@ impl<R: Print> Report<'_, R> {
         }
     }
 
+    // Lends the tally: where a report lies in another struct, the check has no rule for its field as an argument.
+    pub fn tally(&mut self) -> &mut Tally {
+        self.tally
+    }
+
     // Counts a difference; whether it is one of the first five, which are shown.
     fn count_difference(&mut self) -> bool {
         self.tally.differences = self.tally.differences.wrapping_add(1);

@@ -29,16 +29,19 @@ impl<R: Print> Asking<'_, R> {
 
     // `bad` is what the image is found to be with room for the figures.
     fn count(&mut self, asked: &Asked, bad: bool) -> io::Result<()> {
-        count_asking(&self.image, asked, bad, self.report.tally);
+        count_asking(&self.image, asked, bad, self.report.tally());
         self.show_asked(asked.room, asked.verdict.difference)
     }
 
     // Figures that were told: they must be the run's own, and one is paid in.
     fn try_figures(&mut self, asked: &Asked) -> io::Result<()> {
-        let owing = count_lots(&self.image, self.report.tally);
-        count_accounts(&self.image, &owing, self.report.tally);
+        let owing = count_lots(&self.image, self.report.tally());
+        count_accounts(&self.image, &owing, self.report.tally());
         let number = asked.verdict.number;
-        let of_ledger = asked.verdict.difference.map_or(number, |both| both.of_ledger);
+        let of_ledger = asked
+            .verdict
+            .difference
+            .map_or(number, |both| both.of_ledger);
         let right = owing.are_right(&self.image, &asked.figures);
         let judged = Verdict::new(number, of_ledger, right);
         self.show_asked(asked.room, judged.difference)?;

@@ -104,7 +104,7 @@ impl<R: Print> Asking<'_, R> {
             return Ok(());
         };
         if let Some(class) = owing.of(account).class() {
-            self.report.tally.paid_figures.add(class as u64);
+            self.report.tally().paid_figures.add(class as u64);
         }
         self.judge(None, &closed, account)
     }
@@ -117,7 +117,7 @@ impl<R: Print> Asking<'_, R> {
             return Ok(());
         };
         if let Some(due) = due_lot(&self.image, trade) {
-            self.report.tally.paid_less.add(due as u64);
+            self.report.tally().paid_less.add(due as u64);
         }
         self.judge(Some(trade), &closed, account)
     }
