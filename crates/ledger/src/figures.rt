@@ -1,10 +1,9 @@
 // What each account must pay in before the morning close (02 6/12), counted account by account over all lots.
-use crate::number;
+use crate::{is_image, number};
 use ledger_book::{
     ACCOUNTS, BUYER, Book, Cells, DAY, DEPOSIT, DUE, FIGURES_LENGTH, Page, Phase, RECEIPTS,
     Refusal, SELLER, SHORTFALL, State, ZONE,
 };
-use ledger_image::read_image;
 
 // What a lot takes from the account at the close: a penalty from its seller; the payment of a trade that is struck or lodged from its
 // buyer, from whom the deposit is held already.
@@ -49,7 +48,10 @@ fn find_shortfalls(image: &[u8], figures: &mut [u8]) -> Result<(), Refusal> {
     if figures.len() < FIGURES_LENGTH {
         return Err(Refusal::ShortAnswer);
     }
-    let book = read_image(image).ok_or(Refusal::BadImage)?;
+    let mut book = Book::empty();
+    if !is_image(&mut book, image) {
+        return Err(Refusal::BadImage);
+    }
     write_figures(&book, figures);
     Ok(())
 }

@@ -13,8 +13,8 @@ mod figures;
 
 pub use call_tables::table;
 pub use figures::shortfalls;
-use ledger_book::{ANSWER_LENGTH, Book, Call, DAY, IMAGE_LENGTH, Refusal, ZONE};
-use ledger_image::{read_image, write_image};
+use ledger_book::{ANSWER_LENGTH, Book, Call, DAY, IMAGE_LENGTH, Record, Refusal, ZONE};
+use ledger_image::{is_valid, read_image, write_image};
 
 // What an entry returns: 0, or the number of the refusal.
 fn number(made: Result<(), Refusal>) -> u64 {
@@ -33,11 +33,12 @@ fn make(image: &mut [u8], record: &[u8], answer: &mut [u8]) -> Result<(), Refusa
     if answer.len() < ANSWER_LENGTH {
         return Err(Refusal::ShortAnswer);
     }
-    match judge(image, record) {
-        Ok((mut book, call)) => {
+    let mut book = Book::empty();
+    match judge(&mut book, image, record) {
+        Ok(call) => {
             ledger_kinds::perform(&mut book, &call);
             write_image(&mut book, image);
-            answers::accept(&book, call.kind, answer);
+            answers::accept(&book, call.kind(), answer);
             Ok(())
         }
         Err(refusal) => {
@@ -47,12 +48,24 @@ fn make(image: &mut [u8], record: &[u8], answer: &mut [u8]) -> Result<(), Refusa
     }
 }
 
-// The image and the call that may be made on it.
-fn judge(image: &[u8], record: &[u8]) -> Result<(Book, Call), Refusal> {
-    let book = read_image(image).ok_or(Refusal::BadImage)?;
-    let call = Call::read(record)?;
-    ledger_numbers::check(&book, &call)?;
-    Ok((book, call))
+// Whether the bytes are a valid image; the book then holds it.
+fn is_image(book: &mut Book, image: &[u8]) -> bool {
+    if image.len() != IMAGE_LENGTH {
+        return false;
+    }
+    read_image(book, image);
+    is_valid(book)
+}
+
+// The call that may be made on the image; the book then holds it.
+fn judge(book: &mut Book, image: &[u8], record: &[u8]) -> Result<Call, Refusal> {
+    if !is_image(book, image) {
+        return Err(Refusal::BadImage);
+    }
+    let record = <&Record>::try_from(record).map_err(|_| Refusal::BadCall)?;
+    let call = Call::read(record);
+    ledger_numbers::check(book, &call)?;
+    Ok(call)
 }
 
 // A fresh zone: nothing in the book but day 1.

@@ -1,10 +1,11 @@
 // The book: columns of numbers. A lot, an account and a contract have the row of their number, the zone has row 1; row 0 is nobody's.
 use crate::holdings::Cells;
-use crate::numbered::Outcome;
 use crate::places::{ASK, BUYER, COLUMNS, CONTRACT, RECEIPTS, WEALTH};
 
 // As many rows as the longest table wants.
-const ROWS: usize = RECEIPTS as usize + 1;
+pub const ROWS: u64 = RECEIPTS + 1;
+
+const BOOK_ROWS: usize = ROWS as usize;
 
 // The columns of entries and figures lie unused between those of an image and WEALTH (d): without them `cell` and `set` would have a branch
 // for WEALTH.
@@ -13,28 +14,28 @@ const BOOK_COLUMNS: usize = COLUMNS as usize;
 // The row of the header's columns.
 pub const ZONE: u64 = 1;
 
-// What the call's answer lists about a lot.
-#[derive(Clone, Copy)]
+// What the call's answer lists about a lot. An outcome stands here by its number, as in the answer.
+#[derive(Clone, Copy, Debug, Default, PartialEq, Eq, PartialOrd, Ord, Hash)]
 pub struct Entry {
     pub lot: u64,
-    pub outcome: Outcome,
+    pub outcome: u64,
     pub from: u64,
     pub to: u64,
     pub number: u64,
 }
 
-#[derive(Drop)]
+#[derive(Clone, Copy, Debug, Default, PartialEq, Eq, PartialOrd, Ord, Hash)]
 pub struct Book {
-    columns: [[u64; ROWS]; BOOK_COLUMNS],
+    columns: [[u64; BOOK_ROWS]; BOOK_COLUMNS],
     // By lot.
-    pub entries: [Option<Entry>; ROWS],
+    pub entries: [Option<Entry>; BOOK_ROWS],
 }
 
 impl Book {
     pub fn empty() -> Book {
         Book {
-            columns: [[0; ROWS]; BOOK_COLUMNS],
-            entries: [None; ROWS],
+            columns: [[0; BOOK_ROWS]; BOOK_COLUMNS],
+            entries: [None; BOOK_ROWS],
         }
     }
 
@@ -79,10 +80,10 @@ impl Book {
         self.raise(WEALTH, to, fen);
     }
 
-    // Notes the entry of a lot. A call has at most one for each lot.
+    // Notes the entry of a lot. A call has at most one for each lot. Outcome 0 is that of a lot with none.
     pub fn note(&mut self, entry: Entry) {
         if let Some(place) = self.entries.get_mut(entry.lot as usize) {
-            *place = Some(entry);
+            *place = (entry.outcome != 0).then_some(entry);
         }
     }
 }

@@ -1,11 +1,13 @@
-// Little-endian numbers in bytes (01 Opening 5). A field that a buffer does not have reads as 0.
+// Little-endian numbers in bytes (01 Opening 5). A byte past the end of a buffer reads as 0.
 use crate::holdings::Cells;
+use crate::payments::product;
 use crate::places::{CALL_LENGTH, PAGE_LENGTH, place_of};
 use std::ops::Range;
 
 pub fn field(bytes: &[u8], place: Range<usize>) -> u64 {
+    let end = place.end.min(bytes.len());
     bytes
-        .get(place)
+        .get(place.start..end)
         .unwrap_or(&[])
         .iter()
         .rev()
@@ -13,7 +15,7 @@ pub fn field(bytes: &[u8], place: Range<usize>) -> u64 {
 }
 
 // A buffer for an image, a call record, an answer or figures, or for the records of a table of calls.
-#[derive(Clone, Copy, PartialEq, Eq)]
+#[derive(Clone, Copy, Debug, Default, PartialEq, Eq, PartialOrd, Ord, Hash)]
 pub struct Page {
     pub bytes: [u8; PAGE_LENGTH],
 }
@@ -29,11 +31,13 @@ impl Page {
         field(&self.bytes, place)
     }
 
+    // Those bytes of the place that a page has; from the ninth on they are 0.
     pub fn put(&mut self, place: Range<usize>, value: u64) {
-        if let Some(bytes) = self.bytes.get_mut(place) {
-            for (byte, digit) in bytes.iter_mut().zip(value.to_le_bytes()) {
-                *byte = digit;
-            }
+        let end = place.end.min(PAGE_LENGTH);
+        let mut rest = value;
+        for byte in self.bytes.get_mut(place.start..end).unwrap_or(&mut []) {
+            *byte = (rest % 256) as u8;
+            rest /= 256;
         }
     }
 
@@ -49,9 +53,10 @@ impl Page {
         }
     }
 
-    // Puts a call record where the call with this number has its own.
+    // Puts a call record where the call with this number has its own, as far as there is room for it.
     pub fn put_record(&mut self, k: u64, record: &Page) {
-        if let Some(place) = self.bytes.chunks_exact_mut(CALL_LENGTH).nth(k as usize) {
+        let start = product(k, CALL_LENGTH as u64) as usize;
+        if let Some(place) = self.bytes.get_mut(start..) {
             record.copy_out(place, CALL_LENGTH);
         }
     }

@@ -4,6 +4,17 @@ use crate::numbered::{Phase, State};
 use crate::payments::{DEPOSIT, full_payment, rest_payment, unit_price};
 use crate::places::{BASIS, PAID, PHASE, PREMIUM, PRICE, STATE, WEIGHT};
 
+// What a lot of this state holds from its buyer: the deposit up to settlement, then the full payment, then what is unpaid of it
+// (01 Image 15). The state is a number, as in an image that is not valid.
+pub fn held_in_state(state: u64, full: u64, paid: u64) -> u64 {
+    match State::try_from(state) {
+        Ok(State::BidStands | State::Struck | State::Lodged) => DEPOSIT,
+        Ok(State::Settled) => full,
+        Ok(State::FirstPaid) => rest_payment(full).wrapping_sub(paid),
+        _ => 0,
+    }
+}
+
 // What has the fields of an image by column and row: the book, or the bytes of a page.
 pub trait Cells {
     // 0 where book or page end before the cell.
@@ -27,19 +38,20 @@ pub trait Cells {
     }
 
     fn full_payment(&self, lot: u64) -> u64 {
-        let unit_price = self.unit_price(lot, self.cell(PRICE, lot));
-        full_payment(unit_price, self.cell(WEIGHT, lot))
+        full_payment(
+            self.cell(PRICE, lot),
+            self.cell(BASIS, lot),
+            self.cell(PREMIUM, lot),
+            self.cell(WEIGHT, lot),
+        )
     }
 
-    // What the lot holds from its buyer: the deposit up to settlement, then the full payment, then what is unpaid of it (01 Image 15).
+    // What the lot holds from its buyer.
     fn held(&self, lot: u64) -> u64 {
-        match self.state(lot) {
-            Some(State::BidStands | State::Struck | State::Lodged) => DEPOSIT,
-            Some(State::Settled) => self.full_payment(lot),
-            Some(State::FirstPaid) => {
-                rest_payment(self.full_payment(lot)).wrapping_sub(self.cell(PAID, lot))
-            }
-            _ => 0,
-        }
+        held_in_state(
+            self.cell(STATE, lot),
+            self.full_payment(lot),
+            self.cell(PAID, lot),
+        )
     }
 }

@@ -11,9 +11,17 @@ pub fn product(x: u64, y: u64) -> u64 {
     }
 }
 
-// The number that the 32 bits of an i32 stand for.
+// x × y div z; 0 where z is 0.
+pub fn share(x: u64, y: u64, z: u64) -> u64 {
+    product(x, y).checked_div(z).unwrap_or(0)
+}
+
+// The number that the 32 bits of an i32 stand for: from 2^31 on it is one below 0, 2^32 lower than the bits.
 pub fn signed(bits: u64) -> i64 {
-    u32::try_from(bits).map_or(0, |bits| i64::from(bits.cast_signed()))
+    match bits {
+        0..2147483648 => bits.cast_signed(),
+        _ => bits.wrapping_sub(4294967296).cast_signed(),
+    }
 }
 
 // A number modulo 2^32, as a field of 32 bits takes it.
@@ -35,8 +43,8 @@ pub fn unit_price(price: u64, basis: u64, premium: u64) -> u64 {
 }
 
 // Yuan per tonne times kilograms is a tenth of a fen; half a fen is rounded up (01 Money 2, 02 2/12).
-pub fn full_payment(unit_price: u64, weight: u64) -> u64 {
-    product(unit_price, weight).wrapping_add(5) / 10
+pub fn full_payment(price: u64, basis: u64, premium: u64, weight: u64) -> u64 {
+    product(unit_price(price, basis, premium), weight).wrapping_add(5) / 10
 }
 
 // Four fifths, rounded down (01 Money 3).
@@ -50,9 +58,7 @@ pub fn rest_payment(full: u64) -> u64 {
 
 // What is paid of the rest once this much is confirmed, however it was cut into invoices (02 3/12).
 pub fn paid_of_rest(full: u64, confirmed: u64) -> u64 {
-    product(rest_payment(full), confirmed)
-        .checked_div(full)
-        .unwrap_or(0)
+    share(rest_payment(full), confirmed, full)
 }
 
 // What a confirmed invoice pays: what is paid of the rest with it, less what is paid without it.

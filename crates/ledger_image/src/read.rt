@@ -1,8 +1,6 @@
 // An image read into the book.
-use crate::judge::is_valid;
 use ledger_book::{
-    ACCOUNTS, Book, Cells, FREE, FROZEN, IMAGE_COLUMNS_END, IMAGE_LENGTH, WEALTH, field, place_of,
-    records_of,
+    ACCOUNTS, Book, Cells, FREE, FROZEN, IMAGE_COLUMNS_END, WEALTH, field, place_of, records_of,
 };
 
 fn read_column(book: &mut Book, image: &[u8], column: u64) {
@@ -28,13 +26,8 @@ fn count_wealth(book: &mut Book) {
     }
 }
 
-// The book that holds the image; None where the bytes are no valid image.
-pub fn read_image(image: &[u8]) -> Option<Book> {
-    if image.len() != IMAGE_LENGTH {
-        return None;
-    }
-    let mut book = Book::empty();
-    read_columns(&mut book, image);
-    count_wealth(&mut book);
-    is_valid(&mut book).then_some(book)
+// Any bytes are read, also those of no valid image. The book is lent: as a result it would be copied for each call.
+pub fn read_image(book: &mut Book, image: &[u8]) {
+    read_columns(book, image);
+    count_wealth(book);
 }

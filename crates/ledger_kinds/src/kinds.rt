@@ -150,22 +150,23 @@ fn confirm(book: &mut Book, call: &Call) {
 
 // ── All kinds ───────────────────────────────────────────────────────────────────────────────────
 
+// A call of no kind is refused before it comes here; it would be a day close.
 pub fn perform(book: &mut Book, call: &Call) {
-    match call.kind {
-        Kind::PayIn => pay_in(book, call),
-        Kind::TakeOut => take_out(book, call),
-        Kind::Register => register(book, call),
-        Kind::List => list(book, call),
-        Kind::WithdrawListing => withdraw_listing(book, call),
-        Kind::LimitBid => limit_bid(book, call),
-        Kind::MarketBid => market_bid(book, call),
-        Kind::WithdrawBid => withdraw_bid(book, call),
-        Kind::Quote => quote(book, call.contract, call.amount),
-        Kind::Lodge => lodge(book, call),
-        Kind::MorningClose => morning_close(book),
-        Kind::FirstPayment => pay_first(book, call),
-        Kind::Invoice => invoice(book, call),
-        Kind::Confirm => confirm(book, call),
-        Kind::DayClose => day_close(book),
+    match call.kind() {
+        Some(Kind::PayIn) => pay_in(book, call),
+        Some(Kind::TakeOut) => take_out(book, call),
+        Some(Kind::Register) => register(book, call),
+        Some(Kind::List) => list(book, call),
+        Some(Kind::WithdrawListing) => withdraw_listing(book, call),
+        Some(Kind::LimitBid) => limit_bid(book, call),
+        Some(Kind::MarketBid) => market_bid(book, call),
+        Some(Kind::WithdrawBid) => withdraw_bid(book, call),
+        Some(Kind::Quote) => quote(book, call.contract, call.amount),
+        Some(Kind::Lodge) => lodge(book, call),
+        Some(Kind::MorningClose) => morning_close(book),
+        Some(Kind::FirstPayment) => pay_first(book, call),
+        Some(Kind::Invoice) => invoice(book, call),
+        Some(Kind::Confirm) => confirm(book, call),
+        Some(Kind::DayClose) | None => day_close(book),
     }
 }

@@ -20,7 +20,7 @@ impl Parties {
     pub fn from_buyer(self, outcome: Outcome, number: u64) -> Entry {
         Entry {
             lot: self.lot,
-            outcome,
+            outcome: outcome as u64,
             from: self.buyer,
             to: self.seller,
             number,
@@ -30,7 +30,7 @@ impl Parties {
     pub fn from_seller(self, outcome: Outcome, number: u64) -> Entry {
         Entry {
             lot: self.lot,
-            outcome,
+            outcome: outcome as u64,
             from: self.seller,
             to: self.buyer,
             number,
@@ -42,7 +42,7 @@ impl Parties {
 pub fn from_owner(lot: u64, outcome: Outcome, owner: u64) -> Entry {
     Entry {
         lot,
-        outcome,
+        outcome: outcome as u64,
         from: owner,
         to: 0,
         number: 0,

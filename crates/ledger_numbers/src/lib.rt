@@ -25,10 +25,12 @@ fn day_close(book: &Book) -> Result<(), Refusal> {
     )
 }
 
-// The first refusal from a bad call on that applies (01 Answers 26).
+// The first refusal from a bad call on that applies (01 Answers 26): one of no kind, or with a byte that must be zero and is not.
 pub fn check(book: &Book, call: &Call) -> Result<(), Refusal> {
-    refuse_unless(unused::unused(call) == 0, Refusal::BadCall)?;
-    match call.kind {
+    let kind = call.kind().ok_or(Refusal::BadCall)?;
+    let must_be_zero = unused::unused(kind, call) | call.zeros;
+    refuse_unless(must_be_zero == 0, Refusal::BadCall)?;
+    match kind {
         Kind::PayIn => money::pay_in(book, call),
         Kind::TakeOut => money::take_out(book, call),
         Kind::Register => lots::register(book, call),

@@ -7,8 +7,8 @@ fn terms(call: &Call) -> u64 {
 }
 
 // The fields that the kind's brackets do not name, put together: 0 where each is zero.
-pub fn unused(call: &Call) -> u64 {
-    match call.kind {
+pub fn unused(kind: Kind, call: &Call) -> u64 {
+    match kind {
         Kind::PayIn | Kind::TakeOut => call.receipt | terms(call),
         Kind::Register => call.contract | call.days | call.amount,
         Kind::List => call.amount | call.weight,

@@ -25,7 +25,7 @@ fn plan(seed: u64, calls: u64, receipts: u64, accounts: u64, closes: u64) -> Pla
         accounts,
         closes,
         day: 1,
-        opening: None,
+        opening: 0,
     }
 }
 
@@ -40,11 +40,11 @@ fn small_zones(rt: &impl Print, tally: &mut Tally) -> io::Result<()> {
 // one run, from half and a quarter of them in the other.
 fn long_answers(rt: &impl Print, tally: &mut Tally) -> io::Result<()> {
     let all = Plan {
-        opening: Some(Opening::OneContract),
+        opening: Opening::OneContract as u64,
         ..plan(10140107109312335319, 12000, RECEIPTS, ACCOUNTS, 12)
     };
     let half = Plan {
-        opening: Some(Opening::EachContract),
+        opening: Opening::EachContract as u64,
         ..plan(6364136223846793005, 12000, RECEIPTS / 2, ACCOUNTS / 4, 20)
     };
     runs::make_run(rt, all, tally)?;
@@ -55,7 +55,7 @@ fn long_answers(rt: &impl Print, tally: &mut Tally) -> io::Result<()> {
 fn last_days(rt: &impl Print, tally: &mut Tally) -> io::Result<()> {
     let late = Plan {
         day: LAST_DAY - 150,
-        opening: Some(Opening::ToLimit),
+        opening: Opening::ToLimit as u64,
         ..plan(12605985483714917081, 12000, 24, 6, 40)
     };
     runs::make_run(rt, late, tally)

@@ -3,8 +3,9 @@ use ledger_book::{
     ANSWER_LENGTH, ANSWER_NUMBER_END, ANSWER_PHASE_END, Answers, ENTRY_COUNT_END, IMAGE_LENGTH,
     MOST_CALLS, OUTCOME, RECEIPTS, place_of,
 };
-use longrun_counts::{MadeTable, Tally};
+use longrun_counts::{MadeTable, Report, Tally};
 use longrun_draws::{TableFault, answers_wanted};
+use std::io;
 
 // ── Rows and columns of the tally ───────────────────────────────────────────────────────────────
 
@@ -125,8 +126,7 @@ fn count_taken(made: &MadeTable, tally: &mut Tally) {
     }
 }
 
-// Counts a table that was driven.
-pub fn count_table(made: &MadeTable, tally: &mut Tally) {
+fn count(made: &MadeTable, tally: &mut Tally) {
     tally.tables = tally.tables.wrapping_add(1);
     count_size(made, tally);
     count_room(made, tally);
@@ -137,4 +137,15 @@ pub fn count_table(made: &MadeTable, tally: &mut Tally) {
         let fault = made.lengths.fault().unwrap_or(TableFault::Several);
         count_fault(made, fault, tally);
     }
+}
+
+// Counts a table that was driven, and shows where the two sides differ.
+pub fn count_table<R: Print>(mut report: Report<'_, R>, made: &MadeTable) -> io::Result<()> {
+    count(made, report.tally);
+    report.show(
+        "difference at a table of calls after call ",
+        "  calls in it ",
+        made.lengths.whole_calls(),
+        made.verdict.difference,
+    )
 }

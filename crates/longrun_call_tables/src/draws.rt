@@ -67,7 +67,7 @@ pub fn some_table(draws: &mut Draws) -> Lengths {
 
 // A call that will find the chooser's image: the run's opening has its first calls, the others are mostly sensible.
 pub fn call_in_table(chooser: &mut Chooser<'_>, lengths: Lengths, number: u64) -> Request {
-    match chooser.plan.opening {
+    match chooser.plan.opening() {
         Some(opening) if number < opening.calls() => opening.call(number),
         _ => drawn_call(chooser, lengths),
     }

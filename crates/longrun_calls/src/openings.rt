@@ -7,11 +7,22 @@ use longrun_draws::Request;
 #[derive(Clone, Copy, PartialEq, Eq)]
 pub enum Opening {
     // Pay-ins up to the most that a zone may hold, and one more.
-    ToLimit,
+    ToLimit = 1,
     // All lots through a day close, and then through quotes and a morning close, so that answers are full. The lots are of one contract, so
     // that one quote strikes them all, or of each in turn.
     OneContract,
     EachContract,
+}
+
+// A number that is none of these opens like `OneContract`.
+impl From<u64> for Opening {
+    fn from(number: u64) -> Opening {
+        match number {
+            1 => Opening::ToLimit,
+            3 => Opening::EachContract,
+            _ => Opening::OneContract,
+        }
+    }
 }
 
 // ── Steps of a full opening, each with the number of the call that comes after it ───────────────

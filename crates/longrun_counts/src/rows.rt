@@ -1,7 +1,7 @@
-// Counts in rows. A row or a column that a table does not have counts nothing: no caller names one, and each function is safe by itself.
+// Counts in rows. A column that a table does not have counts nothing: no caller names one, and each function is safe by itself.
 use std::fmt;
 
-#[derive(Clone, Copy)]
+#[derive(Clone, Copy, Debug, Default, PartialEq, Eq, PartialOrd, Ord, Hash)]
 pub struct CountRow<const COLUMNS: usize> {
     counts: [u64; COLUMNS],
 }
@@ -11,6 +11,10 @@ impl<const COLUMNS: usize> CountRow<COLUMNS> {
         CountRow {
             counts: [0; COLUMNS],
         }
+    }
+
+    pub fn counted(&self, column: u64) -> u64 {
+        self.counts.get(column as usize).copied().unwrap_or(0)
     }
 
     pub fn add_many(&mut self, column: u64, more: u64) {
@@ -58,9 +62,11 @@ impl<const COLUMNS: usize> fmt::Display for CountRow<COLUMNS> {
     }
 }
 
-#[derive(Clone, Copy)]
+#[derive(Clone, Copy, Debug, Default, PartialEq, Eq, PartialOrd, Ord, Hash)]
 pub struct Counts<const ROWS: usize, const COLUMNS: usize> {
     rows: [CountRow<COLUMNS>; ROWS],
+    // What is counted in a row that the table does not have. With it the check knows that a row fits in memory, which the derives ask for.
+    beyond: CountRow<COLUMNS>,
 }
 
 impl<const ROWS: usize, const COLUMNS: usize> Counts<ROWS, COLUMNS> {
@@ -69,6 +75,9 @@ impl<const ROWS: usize, const COLUMNS: usize> Counts<ROWS, COLUMNS> {
             rows: [CountRow {
                 counts: [0; COLUMNS],
             }; ROWS],
+            beyond: CountRow {
+                counts: [0; COLUMNS],
+            },
         }
     }
 
@@ -77,8 +86,9 @@ impl<const ROWS: usize, const COLUMNS: usize> Counts<ROWS, COLUMNS> {
     }
 
     pub fn add_many(&mut self, row: u64, column: u64, more: u64) {
-        if let Some(counts) = self.rows.get_mut(row as usize) {
-            counts.add_many(column, more);
+        match self.rows.get_mut(row as usize) {
+            Some(counts) => counts.add_many(column, more),
+            None => self.beyond.add_many(column, more),
         }
     }
 
@@ -87,15 +97,16 @@ impl<const ROWS: usize, const COLUMNS: usize> Counts<ROWS, COLUMNS> {
     }
 
     pub fn add_each(&mut self, row: u64, counts: &[(u64, bool)]) {
-        if let Some(row) = self.rows.get_mut(row as usize) {
-            row.add_each(counts);
+        match self.rows.get_mut(row as usize) {
+            Some(row) => row.add_each(counts),
+            None => self.beyond.add_each(counts),
         }
     }
 
-    fn count(&self, row: usize, column: usize) -> u64 {
-        match self.rows.get(row) {
-            Some(counts) => counts.counts.get(column).copied().unwrap_or(0),
-            None => 0,
+    pub fn counted(&self, row: u64, column: u64) -> u64 {
+        match self.rows.get(row as usize) {
+            Some(counts) => counts.counted(column),
+            None => self.beyond.counted(column),
         }
     }
 
@@ -106,7 +117,7 @@ impl<const ROWS: usize, const COLUMNS: usize> Counts<ROWS, COLUMNS> {
         let mut found = 0usize;
         for row in 0..ROWS {
             for column in 0..COLUMNS {
-                if is_so(row, column, self.count(row, column) != 0) {
+                if is_so(row, column, self.counted(row as u64, column as u64) != 0) {
                     found = found.wrapping_add(1);
                 }
             }

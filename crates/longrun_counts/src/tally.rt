@@ -19,7 +19,7 @@ const CONTRACT_ROWS: usize = CONTRACTS as usize;
 // The bytes that a record can be cut to.
 const RESTS: usize = CALL_LENGTH - 1;
 
-#[derive(Drop)]
+#[derive(Clone, Copy, Debug, Default, PartialEq, Eq, PartialOrd, Ord, Hash)]
 pub struct Tally {
     pub calls: u64,
     pub differences: u64,

@@ -2,11 +2,11 @@
 use ledger_book::Refusal;
 use std::fmt;
 
-#[derive(Clone, Copy)]
+#[derive(Clone, Copy, Debug, Default, PartialEq, Eq, PartialOrd, Ord, Hash)]
 pub struct Trials {
-    calls: u64,
-    accepted: u64,
-    refused: u64,
+    pub calls: u64,
+    pub accepted: u64,
+    pub refused: u64,
 }
 
 impl Trials {
@@ -44,7 +44,7 @@ impl fmt::Display for Trials {
 }
 
 // Rows of three conditions.
-#[derive(Clone, Copy)]
+#[derive(Clone, Copy, Debug, Default, PartialEq, Eq, PartialOrd, Ord, Hash)]
 pub struct TrialTable<const ROWS: usize> {
     rows: [[Trials; 3]; ROWS],
 }

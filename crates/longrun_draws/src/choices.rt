@@ -3,7 +3,7 @@
 use crate::draws::Draws;
 use ledger_book::{
     CONTRACTS, LEAST_WEIGHT, MOST_BASIS, MOST_DAYS, MOST_PREMIUM, MOST_PRICE, MOST_WEIGHT,
-    PRICE_STEP,
+    PRICE_STEP, product,
 };
 
 // Prices of the last contract are low, so that full payments lie below the deposit.
@@ -32,7 +32,7 @@ impl Draws {
         if contract == CHEAP_CONTRACT {
             return steps(self.between(1, 10));
         }
-        let least = contract.wrapping_mul(500).wrapping_add(14000);
+        let least = product(contract, 500).wrapping_add(14000);
         least.wrapping_add(steps(self.below(20)))
     }
 

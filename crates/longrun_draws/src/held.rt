@@ -15,6 +15,17 @@ pub const HELD_PLACES: [HeldPlace; 3] = [
     HeldPlace::Free,
 ];
 
+// A number past the places is that of free money.
+impl From<u64> for HeldPlace {
+    fn from(number: u64) -> HeldPlace {
+        match number {
+            0 => HeldPlace::Seller,
+            1 => HeldPlace::AccountBefore,
+            _ => HeldPlace::Free,
+        }
+    }
+}
+
 pub fn raise(image: &mut Page, column: u64, row: u64, by: u64) {
     let value = image.cell(column, row).wrapping_add(by);
     image.set(column, row, value);

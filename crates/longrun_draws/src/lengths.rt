@@ -1,5 +1,5 @@
 // How many bytes of each buffer a call or a table of calls lends.
-use ledger_book::{ANSWER_LENGTH, CALL_LENGTH, IMAGE_LENGTH, MOST_CALLS};
+use ledger_book::{ANSWER_LENGTH, CALL_LENGTH, IMAGE_LENGTH, MOST_CALLS, product};
 
 #[derive(Clone, Copy)]
 pub struct Lengths {
@@ -14,7 +14,14 @@ const CALL: u64 = CALL_LENGTH as u64;
 
 const ANSWER: u64 = ANSWER_LENGTH as u64;
 
-// Why a table is not taken (02 5/12).
+// Why a table is not taken (02 5/12): one of these numbers, or several of them added up.
+pub const TOO_MANY_CALLS: u64 = 1;
+
+pub const RECORD_CUT_SHORT: u64 = 2;
+
+pub const ANSWERS_TOO_SHORT: u64 = 4;
+
+// The same as the runs count it.
 #[derive(Clone, Copy, PartialEq, Eq)]
 pub enum TableFault {
     TooManyCalls,
@@ -25,7 +32,7 @@ pub enum TableFault {
 
 // Bytes that the answers to so many calls take.
 pub fn answers_wanted(calls: u64) -> u64 {
-    calls.wrapping_mul(ANSWER)
+    product(calls, ANSWER)
 }
 
 impl Lengths {
@@ -33,7 +40,7 @@ impl Lengths {
     pub fn of_calls(calls: u64) -> Lengths {
         Lengths {
             image: IMAGE,
-            calls: calls.wrapping_mul(CALL),
+            calls: product(calls, CALL),
             answers: answers_wanted(calls),
         }
     }
@@ -47,17 +54,29 @@ impl Lengths {
         self.calls % CALL
     }
 
+    // 0 of a table that is taken.
+    pub fn reasons(&self) -> u64 {
+        let calls = self.whole_calls();
+        let mut found = 0u64;
+        if calls > MOST_CALLS {
+            found |= TOO_MANY_CALLS;
+        }
+        if self.rest() != 0 {
+            found |= RECORD_CUT_SHORT;
+        }
+        if self.answers < answers_wanted(calls) {
+            found |= ANSWERS_TOO_SHORT;
+        }
+        found
+    }
+
     // None of a table that is taken.
     pub fn fault(&self) -> Option<TableFault> {
-        let calls = self.whole_calls();
-        let too_many = calls > MOST_CALLS;
-        let cut_short = self.rest() != 0;
-        let too_short = self.answers < answers_wanted(calls);
-        match (too_many, cut_short, too_short) {
-            (false, false, false) => None,
-            (true, false, false) => Some(TableFault::TooManyCalls),
-            (false, true, false) => Some(TableFault::RecordCutShort),
-            (false, false, true) => Some(TableFault::AnswersTooShort),
+        match self.reasons() {
+            0 => None,
+            TOO_MANY_CALLS => Some(TableFault::TooManyCalls),
+            RECORD_CUT_SHORT => Some(TableFault::RecordCutShort),
+            ANSWERS_TOO_SHORT => Some(TableFault::AnswersTooShort),
             _ => Some(TableFault::Several),
         }
     }

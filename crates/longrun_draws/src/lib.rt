@@ -10,5 +10,7 @@ mod requests;
 
 pub use draws::Draws;
 pub use held::{HELD_PLACES, HeldPlace, move_held, raise};
-pub use lengths::{Lengths, TableFault, answers_wanted};
-pub use requests::Request;
+pub use lengths::{
+    ANSWERS_TOO_SHORT, Lengths, RECORD_CUT_SHORT, TOO_MANY_CALLS, TableFault, answers_wanted,
+};
+pub use requests::{Request, request_of};

@@ -18,20 +18,25 @@ pub struct Request {
     pub lengths: Lengths,
 }
 
+// A call of any kind, or of none.
+pub fn request_of(kind: u64, account: u64, receipt: u64, amount: u64) -> Request {
+    Request {
+        kind,
+        account,
+        receipt,
+        contract: 0,
+        days: 0,
+        zeros: 0,
+        amount,
+        basis: 0,
+        weight: 0,
+        lengths: Lengths::of_calls(1),
+    }
+}
+
 impl Request {
     pub fn new(kind: Kind, account: u64, receipt: u64, amount: u64) -> Request {
-        Request {
-            kind: kind as u64,
-            account,
-            receipt,
-            contract: 0,
-            days: 0,
-            zeros: 0,
-            amount,
-            basis: 0,
-            weight: 0,
-            lengths: Lengths::of_calls(1),
-        }
+        request_of(kind as u64, account, receipt, amount)
     }
 
     pub fn quote(contract: u64, ask: u64) -> Request {

@@ -61,13 +61,7 @@ impl<R: Print> TableMaker<'_, R> {
     fn make_table(&mut self, lengths: Lengths, first: u64) -> io::Result<()> {
         let alone = self.make_each_alone(lengths, first)?;
         let made = self.sides.drive_table(&alone);
-        count_table(&made, self.report.tally());
-        self.report.show(
-            "difference at a table of calls after call ",
-            "  calls in it ",
-            lengths.whole_calls(),
-            made.verdict.difference,
-        )
+        count_table(self.report.again(), &made)
     }
 
     fn make_altered_table(&mut self, lengths: Lengths, first: u64) -> io::Result<()> {

@@ -4,7 +4,7 @@ use longrun_calls::Plan;
 use longrun_counts::{Asked, Difference, Report, Verdict};
 use longrun_draws::Draws;
 use longrun_shortfalls::{
-    Variation, count_accounts, count_asking, count_lots, some_image_length, some_room,
+    Owing, Variation, count_accounts, count_asking, count_lots, some_image_length, some_room,
 };
 use longrun_sides::ask_shortfalls;
 use std::io;
@@ -35,7 +35,8 @@ impl<R: Print> Asking<'_, R> {
 
     // Figures that were told: they must be the run's own, and one is paid in.
     fn try_figures(&mut self, asked: &Asked) -> io::Result<()> {
-        let owing = count_lots(&self.image, self.report.tally());
+        let mut owing = Owing::nothing();
+        count_lots(&self.image, &mut owing, self.report.tally());
         count_accounts(&self.image, &owing, self.report.tally());
         let number = asked.verdict.number;
         let of_ledger = asked

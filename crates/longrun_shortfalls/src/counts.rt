@@ -101,9 +101,8 @@ fn due_time(image: &Page, lot: u64) -> DueTime {
     }
 }
 
-// Counts the lots of a valid image; what the next morning close takes is added up on the way.
-pub fn count_lots(image: &Page, tally: &mut Tally) -> Owing {
-    let mut owing = Owing::nothing();
+// Counts the lots of a valid image; what the next morning close takes is added to what is owing on the way.
+pub fn count_lots(image: &Page, owing: &mut Owing, tally: &mut Tally) {
     for lot in 1..=RECEIPTS {
         if let Some(due) = due_lot(image, lot) {
             let time = due_time(image, lot);
@@ -113,7 +112,6 @@ pub fn count_lots(image: &Page, tally: &mut Tally) -> Owing {
             }
         }
     }
-    owing
 }
 
 // ── Accounts ────────────────────────────────────────────────────────────────────────────────────

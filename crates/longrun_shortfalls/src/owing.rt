@@ -38,7 +38,7 @@ pub enum OwingClass {
 }
 
 // An account's due lots that are struck, lodged, with a penalty; those whose full payment lies below the deposit; the fen that they take.
-#[derive(Clone, Copy)]
+#[derive(Clone, Copy, Debug, Default, PartialEq, Eq, PartialOrd, Ord, Hash)]
 pub struct Dues {
     struck: u64,
     lodged: u64,
@@ -94,7 +94,7 @@ impl Dues {
 
 // ── All accounts ────────────────────────────────────────────────────────────────────────────────
 
-#[derive(Drop)]
+#[derive(Clone, Copy, Debug, Default, PartialEq, Eq, PartialOrd, Ord, Hash)]
 pub struct Owing {
     accounts: [Dues; ACCOUNTS as usize],
 }

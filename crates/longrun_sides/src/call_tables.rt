@@ -1,9 +1,9 @@
 // One table of calls on both sides (02 5/12).
 use crate::buffers::{filled_answers, lent, lent_mut};
 use crate::sides::Sides;
-use ledger_book::{Answers, Kind, Page, Refusal};
+use ledger_book::{Answers, Page, Refusal};
 use longrun_counts::MadeTable;
-use longrun_draws::{Lengths, Request};
+use longrun_draws::{Lengths, request_of};
 
 // A table's calls made one by one: their records, and the image and the answers that they leave, which the table must leave too.
 #[derive(Drop)]
@@ -29,10 +29,7 @@ impl MadeAlone {
 impl Sides {
     // Whether a call on so many bytes of the image has number 2. One of no kind has 3 on a valid image.
     fn is_bad_image(&self, length: u64) -> bool {
-        let mut request = Request {
-            kind: 0,
-            ..Request::close(Kind::DayClose)
-        };
+        let mut request = request_of(0, 0, 0, 0);
         request.lengths.image = length;
         let made = Sides::on(&self.image).drive(request);
         made.verdict.is_refused_by(Refusal::BadImage)

@@ -4,8 +4,7 @@ use ledger_book::{Cells, RECEIPTS, STATE, State};
 use longrun_draws::{Draws, HELD_PLACES, HeldPlace, move_held};
 
 fn some_place(draws: &mut Draws) -> HeldPlace {
-    let k = draws.below(HELD_PLACES.len() as u64) as usize;
-    HELD_PLACES.get(k).copied().unwrap_or(HeldPlace::Free)
+    HeldPlace::from(draws.below(HELD_PLACES.len() as u64))
 }
 
 impl Alteration<'_> {
