@@ -32,13 +32,13 @@ fn sweep_lots(image: &mut [u8], c: Call, answer: &mut [u8]) -> usize
     ensures { (image.new ≡ encode (sweep (rule_at c) receipt_count 1 (decode image.old)).zone) × ((result, answer.new) ≡ listed (sweep (rule_at c) receipt_count 1 (decode image.old)).entries answer.old) }
 {
     let mut count = 0;
-    let mut k = 0;
-    while let Some(i) = lots::next_concerned(image, c, k) {
+    let mut found = lots::next_concerned(image, c, 0);
+    while let Some(i) = found {
         if let Some(entry) = visits::work_lot(image, c, i as u8 + 1) {
             answers::put_entry(answer, count, entry);
             count += 1;
         }
-        k = i + 1;
+        found = lots::next_concerned(image, c, i + 1);
     }
     count
 }

@@ -142,7 +142,8 @@ pub fn account_at(image: &[u8], k: usize) -> Account
     requires { (length image.now ≡ image_length) × (k < account_count) }
     ensures { result ≡ account_in (account_run image.now k) }
 {
-    account_in(row(image, ACCOUNT_START, ACCOUNT_LENGTH, k))
+    let at = ACCOUNT_START + k * ACCOUNT_LENGTH;
+    account_in(&image[at..at + ACCOUNT_LENGTH])
 }
 
 #[tactic(auto, unfolding(crate::specs::Layout::ask_in))]
@@ -180,7 +181,8 @@ pub fn record_at(image: &[u8], k: usize) -> Record
     requires { (length image.now ≡ image_length) × (k < receipt_count) }
     ensures { result ≡ record_in (receipt_run image.now k) }
 {
-    record_in(row(image, RECEIPT_START, RECEIPT_LENGTH, k))
+    let at = RECEIPT_START + k * RECEIPT_LENGTH;
+    record_in(&image[at..at + RECEIPT_LENGTH])
 }
 
 // A lot's state and contract, without the rest of its record.

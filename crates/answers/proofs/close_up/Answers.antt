@@ -1,25 +1,20 @@
--- What is copied are the bytes of the entries behind entry k.
-use Rattle.std.proofs.Common.{List, ◌++◌, ℕ, ◌+◌, ◌-◌, ◌*◌, ◌≡◌, ◌≤◌, length, take, drop, sym, ap, ◌∙◌, arith, length-drop, length-take-le}
-use Rattle.std.proofs.Math.Seq.{paste}
-use Rattle.std.proofs.lemmas.List.Edits.{sets, sets-eq}
+-- One entry more has moved.
+use Rattle.std.proofs.Common.{ap, ◌∙◌, List, ℕ, ◌+◌, arith}
+use Rattle.std.proofs.lemmas.List.Edits.{sets}
+use Rattle.wire.specs.LittleEndian.{le_at, le_bytes}
 use Rattle.answers.specs.Buffers.{entry_length, entry_place}
+use Rattle.answers.specs.Laws.Entries.{none_closed, one_closed}
 use Rattle.answers.proofs.close_up.Goals as goal
 
--- a copy of n elements as a run of them that is put
-run_copied : (s from : List ℕ) (at n : ℕ) → n ≤ length from → at + n ≤ length s → paste s at from n ≡ sets s at (take n from)
-run_copied s from at n h room =
-    let long : length (take n from) ≡ n = length-take-le n from h in
-    ap (λ (i : ℕ). take at s ++ take n from ++ drop (at + i) s) (sym long) ∙ sym (sets-eq (take n from) s at (rw long room))
+pub loop-i-init : goal.loop-i-init
+loop-i-init c = (none_closed c.args.k c.args.answer.now, λ j. (c.type_inv.answer j).fits)
 
-pub returns : goal.returns
-returns c =
-    let s = c.args.answer.now in
-    let at : ℕ = entry_place c.args.k in
-    let n : ℕ = (c.args.last - c.args.k) * entry_length in
-    let next : entry_place c.args.k + entry_length ≡ entry_place (c.args.k + 1) = omega arith in
-    let from : ℕ = at + entry_length in
-    let many : from + n - from ≡ n = omega arith in
-    c.copy_within.ensures.after
-    ∙ ap (paste s at (drop (at + entry_length) s)) many
-    ∙ ap (λ (i : ℕ). paste s at (drop i s) n) next
-    ∙ run_copied s (drop (entry_place (c.args.k + 1)) s) at n (rw length-drop (omega (arith, c.requires))) (omega (arith, c.requires))
+pub loop-i-preserved : goal.loop-i-preserved
+loop-i-preserved c =
+    let l = c.loop-i in (
+      c.put_u64.ensures
+          ∙ ap (sets l.answer (entry_place l.i)) (ap (le_bytes 8) c.get_u64-bytes.ensures)
+          ∙ ap (λ (t : List ℕ). sets t (entry_place l.i) (le_bytes 8 (le_at 8 t (entry_place l.i + entry_length)))) l.invariant.0
+          ∙ one_closed c.args.k l.i c.args.answer.now l.invariant.1 (omega arith) (omega (arith, c.requires)),
+      l.invariant.1,
+    )

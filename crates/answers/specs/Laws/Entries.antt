@@ -14,9 +14,9 @@ use Rattle.wire.specs.Laws.Bytes.{le_at_le_bytes, le_bytes_le_at, le_at_lt, sets
 use Rattle.rules.specs.declared.Entry.{Entry}
 use Rattle.image.specs.Table.{table_bytes, run_at}
 use Rattle.image.specs.Laws.Bytes.{bytes_part}
-use Rattle.image.specs.Laws.Table.{table_bytes_append, length_table_bytes}
+use Rattle.image.specs.Laws.Table.{le_at_part, table_bytes_append, length_table_bytes}
 use Rattle.answers.specs.Buffers.{entries_start, entry_length, entry_place, entry_bytes, entry_in, entry_at, entries_from, with_entries}
-use Rattle.wire.specs.Laws.Runs.{before_run, run_there, run_again, run_over}
+use Rattle.wire.specs.Laws.Runs.{behind_run, before_run, run_there, run_again, run_over}
 
 pub entry_wide : (e : Entry) → length (entry_bytes e) ≡ entry_length
 unfolding entry_bytes le_bytes
@@ -95,6 +95,40 @@ module _ (answer : List ℕ) (B : Bytes answer) where
 -- the bytes of i - k entries behind entry k, put from entry k on
 abbrev pub closed : ℕ → ℕ → List ℕ → List ℕ
 closed k i answer = sets answer (entry_place k) (take ((i - k) * entry_length) (drop (entry_place (k + 1)) answer))
+
+pub none_closed : (k : ℕ) (answer : List ℕ) → answer ≡ closed k k answer
+none_closed k answer =
+    let none : 0 ≡ (k - k) * entry_length = omega arith in
+    ap (λ (n : ℕ). sets answer (entry_place k) (take n (drop (entry_place (k + 1)) answer))) none
+
+-- a number of eight bytes read where two lists are alike
+same_read : (s t : List ℕ) (at : ℕ) → drop at s ≡ drop at t → le_at 8 s at ≡ le_at 8 t at
+same_read s t at e =
+    let here : at + 0 ≡ at = omega arith in
+    ap (le_at 8 s) (sym here) ∙ sym (le_at_part 8 s at 0 8 (omega arith)) ∙ ap (λ (l : List ℕ). le_at 8 (take 8 l) 0) e
+    ∙ le_at_part 8 t at 0 8 (omega arith) ∙ ap (le_at 8 t) here
+
+-- one more
+pub one_closed : (k i : ℕ) (answer : List ℕ) → Bytes answer → k ≤ i → entry_place (i + 2) ≤ length answer
+    → sets (closed k i answer) (entry_place i) (le_bytes 8 (le_at 8 (closed k i answer) (entry_place i + entry_length))) ≡ closed k (i + 1) answer
+one_closed k i answer B h room =
+    let n : ℕ = (i - k) * entry_length in
+    let from : List ℕ = drop (entry_place (k + 1)) answer in
+    let at : ℕ = entry_place i + entry_length in
+    let wide : length (take n from) ≡ n = length-take-le n from (rw length-drop (omega arith)) in
+    let next : entry_place (k + 1) + n ≡ at = omega arith in
+    let end : entry_place k + length (take n from) ≡ entry_place i = omega arith in
+    let more : n + entry_length ≡ (i + 1 - k) * entry_length = omega arith in
+    let read : le_bytes 8 (le_at 8 (closed k i answer) at) ≡ take entry_length (drop n from) =
+    ap (le_bytes 8) (same_read (closed k i answer) answer at (behind_run (take n from) answer (entry_place k) at (omega arith)))
+    ∙ le_bytes_le_at 8 answer at B (omega arith)
+    ∙ ap (λ (j : ℕ). take entry_length (drop j answer)) (sym next)
+    ∙ ap (take entry_length) (sym (drop-drop n (entry_place (k + 1)) answer)) in
+    ap (sets (closed k i answer) (entry_place i)) read
+    ∙ ap (λ (j : ℕ). sets (closed k i answer) j (take entry_length (drop n from))) (sym end)
+    ∙ sym (sets_append answer (entry_place k) (take n from) (take entry_length (drop n from)))
+    ∙ ap (sets answer (entry_place k)) (sym (take-add n entry_length from))
+    ∙ ap (λ (m : ℕ). sets answer (entry_place k) (take m from)) more
 
 -- ── Entries that were put ──────────────────────────────────────────────────────────────────────
 

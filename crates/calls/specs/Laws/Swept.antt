@@ -19,7 +19,7 @@ use Rattle.image.specs.Image.{decode, encode, Encoded}
 use Rattle.image.specs.Table.{table_bytes}
 use Rattle.answers.specs.Buffers.{entry_place, entry_bytes, listed}
 use Rattle.answers.specs.Laws.Entries.{put_next}
-use Rattle.lots.specs.Concerned.{PassedOver}
+use Rattle.lots.specs.Concerned.{PassedOver, FirstFrom}
 use Rattle.lots.specs.Noted.{entries_of, Worked}
 use Rattle.calls.specs.Laws.Good.{Of, bytes_of}
 
@@ -141,6 +141,15 @@ pub record SweptTo (c : Call) (z : Zone) (answer : List ℕ) (k : ℕ) (image : 
   pub image_is : image ≡ encode (sweep (rule_at c) k 1 z).zone
   pub made_is : made ≡ listed (sweep (rule_at c) k 1 z).entries answer
 
+-- the lots before the one that is found, or all where none is
+abbrev pub up_to : Option ℕ → ℕ
+up_to None = receipt_count
+up_to (Some i) = i
+
+abbrev pub SweptUpTo : Call → Zone → List ℕ → Option ℕ → List ℕ → ℕ × List ℕ → Type 0
+SweptUpTo c z answer None image made = SweptTo c z answer receipt_count image made
+SweptUpTo c z answer (Some i) image made = (i < receipt_count) × SweptTo c z answer i image made
+
 pub none_yet : (c : Call) (s answer : List ℕ) → Encoded s → SweptTo c (decode s) answer 0 s (0, answer)
 unfolding sweep table_bytes
 none_yet c s answer e = record { lots = omega arith; image_is = e; made_is = refl }
@@ -162,6 +171,11 @@ module _ {c : Call} {z : Zone} {answer : List ℕ} {k : ℕ} {image : List ℕ} 
       let same : sweep (rule_at c) i 1 z ≡ sweep (rule_at c) k 1 z =
       sweep_past (rule_at c) k i z h (λ j a b. rw (← so_far_good.zone) (none j a b)) in
       record { lots = m; image_is = rw same S.image_is; made_is = rw same S.made_is }
+
+  -- the lots before the one that is found next
+  pub up_to_found : (found : Option ℕ) → FirstFrom c (decode image) k found → SweptUpTo c z answer found image made
+  up_to_found None none = further_on S.lots (omega arith) none
+  up_to_found (Some i) first = (first.1, further_on first.0 (omega (arith, first.1)) first.2)
 
   -- an entry more has room before the last lot
   pub has_room : k < receipt_count → made.0 < receipt_count
