@@ -11,6 +11,12 @@ use Rattle.zone.specs.Held.{all_money}
 use Rattle.zone.specs.Valid.{all}
 use Rattle.verdict.specs.Sums.{frozen_from}
 
+module _ {A : Type 0} (p : A → Bool) where
+  pub all_one : (l : List A) (x : A) → all p (l ++ (x ∷ [])) ≡ all p l && p x
+  unfolding all
+  all_one [] x = and-true (p x)
+  all_one (y ∷ l) x = rw (all_one l x, and_assoc)
+
 pub all_folded : (ok : Bool) (marks : List Bool) → fold (λ ok mark. ok && mark) ok marks ≡ ok && all (λ b. b) marks
 unfolding all
 all_folded ok [] = sym (and-true ok)
