@@ -142,6 +142,7 @@ pub fn account_at(image: &[u8], k: usize) -> Account
     requires { (length image.now ≡ image_length) × (k < account_count) }
     ensures { result ≡ account_in (account_run image.now k) }
 {
+    // The slice where it stands, and not by `row`: so the compiler sees which fields are put back as they were read.
     let at = ACCOUNT_START + k * ACCOUNT_LENGTH;
     account_in(&image[at..at + ACCOUNT_LENGTH])
 }
@@ -181,6 +182,7 @@ pub fn record_at(image: &[u8], k: usize) -> Record
     requires { (length image.now ≡ image_length) × (k < receipt_count) }
     ensures { result ≡ record_in (receipt_run image.now k) }
 {
+    // As in `account_at`.
     let at = RECEIPT_START + k * RECEIPT_LENGTH;
     record_in(&image[at..at + RECEIPT_LENGTH])
 }

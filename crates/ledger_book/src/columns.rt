@@ -80,7 +80,7 @@ impl Book {
         self.raise(WEALTH, to, fen);
     }
 
-    // Notes the entry of a lot. A call has at most one for each lot. Outcome 0 is that of a lot with none.
+    // Notes the entry of a lot. A call has at most one for each lot. With outcome 0 the lot has none.
     pub fn note(&mut self, entry: Entry) {
         if let Some(place) = self.entries.get_mut(entry.lot as usize) {
             *place = (entry.outcome != 0).then_some(entry);

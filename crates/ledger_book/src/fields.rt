@@ -31,7 +31,7 @@ impl Page {
         field(&self.bytes, place)
     }
 
-    // Those bytes of the place that a page has; from the ninth on they are 0.
+    // Writes the value into those bytes of the place that a page has; from the ninth on they become 0.
     pub fn put(&mut self, place: Range<usize>, value: u64) {
         let end = place.end.min(PAGE_LENGTH);
         let mut rest = value;

@@ -5,7 +5,7 @@ use crate::payments::{DEPOSIT, full_payment, rest_payment, unit_price};
 use crate::places::{BASIS, PAID, PHASE, PREMIUM, PRICE, STATE, WEIGHT};
 
 // What a lot of this state holds from its buyer: the deposit up to settlement, then the full payment, then what is unpaid of it
-// (01 Image 15). The state is a number, as in an image that is not valid.
+// (01 Image 15). Any number can stand for a state: an image that is not valid can have others, and such a lot holds nothing.
 pub fn held_in_state(state: u64, full: u64, paid: u64) -> u64 {
     match State::try_from(state) {
         Ok(State::BidStands | State::Struck | State::Lodged) => DEPOSIT,

@@ -379,7 +379,7 @@ pub fn records_of(column: u64) -> u64 {
     table_of(column).records
 }
 
-// The bytes of a record that has the column.
+// How many bytes the records have in which the column stands.
 pub fn length_of(column: u64) -> u64 {
     table_of(column).length as u64
 }
@@ -398,7 +398,7 @@ fn start_in_record(column: u64, first: u64) -> usize {
 // The bytes of a field in the record of a row. Row 0, which is nobody's, has those of row 1, as has one from 2^32 + 1 on.
 pub fn place_of(column: u64, row: u64) -> Range<usize> {
     let table = table_of(column);
-    let before = product(row.wrapping_sub(1), length_of(column)) as usize;
+    let before = product(row.wrapping_sub(1), table.length as u64) as usize;
     let record = table.start.wrapping_add(before);
     let start = record.wrapping_add(start_in_record(column, table.first));
     start..record.wrapping_add(end_in_record(column))

@@ -8,8 +8,8 @@ use crate::places::{
 
 pub type Record = [u8; CALL_LENGTH];
 
-// What a record has, whether it may be or not: any number for a kind, and any where zeros must stand. `amount` is a price in bids and quotes,
-// `basis` the premium where a receipt is registered.
+// What the bytes of a record say, also those of a bad call: `kind` can be no kind's number, `zeros` can be other than 0. `amount` is a price in
+// bids and quotes, `basis` the premium where a receipt is registered.
 #[derive(Clone, Copy)]
 pub struct Call {
     pub kind: u64,

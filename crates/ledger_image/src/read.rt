@@ -26,7 +26,7 @@ fn count_wealth(book: &mut Book) {
     }
 }
 
-// Any bytes are read, also those of no valid image. The book is lent: as a result it would be copied for each call.
+// Any bytes are read, also those of no valid image. The book is lent: returned, it would be copied for each call.
 pub fn read_image(book: &mut Book, image: &[u8]) {
     read_columns(book, image);
     count_wealth(book);

@@ -3,8 +3,8 @@ use crate::closes::{day_close, end, morning_close};
 use crate::parties::{Parties, from_owner};
 use ledger_book::{
     ASK, BASIS, BUYER, Book, CONFIRMED, CONTRACT, Call, Cells, DAY, DAYS, DUE, Kind, OWNER,
-    Outcome, PAID, PENDING, PREMIUM, PRICE, Phase, RECEIPTS, SELLER, STATE, State, TOTAL, WEALTH,
-    WEIGHT, ZONE, first_payment, part_payment,
+    Outcome, PAID, PENDING, PHASE, PREMIUM, PRICE, Phase, RECEIPTS, SELLER, STATE, State, TOTAL,
+    WEALTH, WEIGHT, ZONE, first_payment, part_payment,
 };
 
 // ── Money and receipts ──────────────────────────────────────────────────────────────────────────
@@ -45,10 +45,8 @@ fn withdraw_listing(book: &mut Book, call: &Call) {
 // D days on, but never the same day once that day's morning close is over (01 Calls 26).
 fn due_day(book: &Book, lot: u64) -> u64 {
     let days = book.cell(DAYS, lot);
-    let least = match book.phase() {
-        Phase::Morning => 0,
-        Phase::Afternoon => 1,
-    };
+    let is_afternoon = book.cell(PHASE, ZONE) == Phase::Afternoon as u64;
+    let least = u64::from(is_afternoon);
     book.cell(DAY, ZONE).wrapping_add(days.max(least))
 }
 

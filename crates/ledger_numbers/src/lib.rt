@@ -6,14 +6,15 @@ mod lots;
 mod money;
 mod unused;
 
-use ledger_book::{Book, Call, Cells, DAY, Kind, LAST_DAY, Phase, Refusal, State, ZONE};
+use ledger_book::{Book, Call, Cells, DAY, Kind, LAST_DAY, PHASE, Phase, Refusal, State, ZONE};
 
 fn refuse_unless(holds: bool, refusal: Refusal) -> Result<(), Refusal> {
     if holds { Ok(()) } else { Err(refusal) }
 }
 
 fn morning_close(book: &Book) -> Result<(), Refusal> {
-    refuse_unless(book.phase() == Phase::Morning, Refusal::WrongPhase)
+    let is_afternoon = book.cell(PHASE, ZONE) == Phase::Afternoon as u64;
+    refuse_unless(!is_afternoon, Refusal::WrongPhase)
 }
 
 // Also where no day follows.
@@ -25,7 +26,7 @@ fn day_close(book: &Book) -> Result<(), Refusal> {
     )
 }
 
-// The first refusal from a bad call on that applies (01 Answers 26): one of no kind, or with a byte that must be zero and is not.
+// The first refusal from a bad call on that applies (01 Answers 26). A bad call is one of no kind, or with a byte that must be zero and is not.
 pub fn check(book: &Book, call: &Call) -> Result<(), Refusal> {
     let kind = call.kind().ok_or(Refusal::BadCall)?;
     let must_be_zero = unused::unused(kind, call) | call.zeros;

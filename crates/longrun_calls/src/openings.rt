@@ -14,7 +14,7 @@ pub enum Opening {
     EachContract,
 }
 
-// A number that is none of these opens like `OneContract`.
+// A number that is none of these, 0 too, opens like `OneContract`. That 0 is no opening, a `Plan` says.
 impl From<u64> for Opening {
     fn from(number: u64) -> Opening {
         match number {

@@ -1,4 +1,5 @@
-// Counts in rows. A column that a table does not have counts nothing: no caller names one, and each function is safe by itself.
+// Counts in rows. A column that a table does not have counts nothing, and rows that it does not have share one, `beyond`: no caller names either,
+// and each function is safe by itself.
 use std::fmt;
 
 #[derive(Clone, Copy, Debug, Default, PartialEq, Eq, PartialOrd, Ord, Hash)]

@@ -2,6 +2,7 @@ pub mod Tables
 pub mod Moves
 pub mod Funded
 pub mod Kinds
+pub mod Arms
 pub mod Numbered
 pub mod Steps
 pub mod Passed

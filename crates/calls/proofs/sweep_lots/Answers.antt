@@ -27,7 +27,7 @@ work_lot-requires c =
 pub put_entry-requires : goal.put_entry-requires
 put_entry-requires c =
     let F = here (goal.at.put_entry-requires c).In-Some in
-    (omega (arith, still_long F.1, c.requires.3), has_room c.requires.2 (good_decode _ c.requires.1) F.1 F.0)
+    (omega (arith, still_long F.1, c.requires.3), omega (arith, has_room c.requires.2 (good_decode _ c.requires.1) F.1 F.0, F.0))
 
 pub overflow_add-count : goal.overflow_add-count
 overflow_add-count c =

@@ -141,11 +141,12 @@ pub record SweptTo (c : Call) (z : Zone) (answer : List ℕ) (k : ℕ) (image : 
   pub image_is : image ≡ encode (sweep (rule_at c) k 1 z).zone
   pub made_is : made ≡ listed (sweep (rule_at c) k 1 z).entries answer
 
--- the lots before the one that is found, or all where none is
+-- how far the lots are swept where one is found: up to it, or all where none is
 abbrev pub up_to : Option ℕ → ℕ
 up_to None = receipt_count
 up_to (Some i) = i
 
+-- what is left of the zone and the answer then; a lot that is found is one of the receipts
 abbrev pub SweptUpTo : Call → Zone → List ℕ → Option ℕ → List ℕ → ℕ × List ℕ → Type 0
 SweptUpTo c z answer None image made = SweptTo c z answer receipt_count image made
 SweptUpTo c z answer (Some i) image made = (i < receipt_count) × SweptTo c z answer i image made
