@@ -25,8 +25,8 @@ fn sweeps(kind: Kind) -> bool
     matches!(kind, Kind::Quote | Kind::MorningClose | Kind::DayClose)
 }
 
-// Lots that the call does not concern are passed over; the first search stands before the loop, where its start is known. Returns how many entries it has put into the answer, which is the host's buffer and has
-// room for one of each lot.
+// Lots that the call does not concern are passed over; the first search stands before the loop, where its start is known. Returns how many
+// entries it has put into the answer, which is the host's buffer and has room for one of each lot.
 fn sweep_lots(image: &mut [u8], c: Call, answer: &mut [u8]) -> usize
     requires { Encoded image.old × (valid_zone (decode image.old) ≡ true) × (sweeps c.kind ≡ true) × (answer_length ≤ length answer.old) }
     ensures { (image.new ≡ encode (sweep (rule_at c) receipt_count 1 (decode image.old)).zone) × ((result, answer.new) ≡ listed (sweep (rule_at c) receipt_count 1 (decode image.old)).entries answer.old) }
