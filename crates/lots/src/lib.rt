@@ -96,10 +96,12 @@ fn concerns(image: &[u8], kind: Kind, c: Call, k: usize) -> bool
     match kind {
         Kind::Quote => (state == State::BidStands as u8)
             & (image::contract_at(image, k) == c.contract),
+        // For speed: one comparison passes over the states before struck, which most lots are in.
         Kind::MorningClose => {
-            (state == State::Struck as u8)
-                | (state == State::Lodged as u8)
-                | (state == State::PenaltyDue as u8)
+            state >= State::Struck as u8
+                && ((state == State::Struck as u8)
+                    | (state == State::Lodged as u8)
+                    | (state == State::PenaltyDue as u8))
         }
         _ => (state == State::Listed as u8) | (state == State::BidStands as u8),
     }
