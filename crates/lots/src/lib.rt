@@ -96,7 +96,7 @@ fn concerns(image: &[u8], kind: Kind, c: Call, k: usize) -> bool
     match kind {
         Kind::Quote => (state == State::BidStands as u8)
             & (image::contract_at(image, k) == c.contract),
-        // For speed: one comparison passes over the states before struck, which most lots are in.
+        // For speed: one comparison passes over the lots before struck, which are most of an idle zone's.
         Kind::MorningClose => {
             state >= State::Struck as u8
                 && ((state == State::Struck as u8)
