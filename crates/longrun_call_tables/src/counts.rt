@@ -126,7 +126,8 @@ fn count_taken(made: &MadeTable, tally: &mut Tally) {
     }
 }
 
-fn count(made: &MadeTable, tally: &mut Tally) {
+// Counts a table that was driven.
+pub fn count_table(made: &MadeTable, tally: &mut Tally) {
     tally.tables = tally.tables.wrapping_add(1);
     count_size(made, tally);
     count_room(made, tally);
@@ -140,12 +141,47 @@ fn count(made: &MadeTable, tally: &mut Tally) {
 }
 
 // Counts a table that was driven, and shows where the two sides differ.
-pub fn count_table<R: Print>(mut report: Report<'_, R>, made: &MadeTable) -> io::Result<()> {
-    count(made, report.tally);
+pub fn report_table<R: Print>(mut report: Report<'_, R>, made: &MadeTable) -> io::Result<()> {
+    count_table(made, report.tally);
     report.show(
         "difference at a table of calls after call ",
         "  calls in it ",
         made.lengths.whole_calls(),
         made.verdict.difference,
     )
+}
+
+#[cfg(test)]
+mod tests {
+    use super::*;
+    use ledger_book::{CALL_LENGTH, Refusal};
+    use longrun_counts::Verdict;
+    use longrun_draws::Lengths;
+
+    // A table whose sides differ, with answers that are all zeros.
+    fn made(calls_length: usize, number: u64) -> MadeTable {
+        MadeTable {
+            lengths: Lengths {
+                calls: calls_length as u64,
+                ..Lengths::of_calls(2)
+            },
+            bad_image: false,
+            answers: Answers::filled(0),
+            verdict: Verdict::new(number, 0, false),
+        }
+    }
+
+    #[test]
+    fn counts_a_table_and_shows_nothing(rt: HostRuntime) {
+        let mut tally = Tally::empty();
+        count_table(&made(2 * CALL_LENGTH, 0), &mut tally);
+        count_table(&made(CALL_LENGTH + 1, Refusal::BadTable as u64), &mut tally);
+        assert_eq!(rt; tally.tables, 2);
+        assert_eq!(rt; tally.table_sizes.counted(TableSize::Fewer as u64, 0), 1);
+        assert_eq!(rt; tally.table_sizes.counted(TableSize::OneCall as u64, 2), 1);
+        assert_eq!(rt; tally.table_answers.counted(AnswerRoom::Exact as u64), 1);
+        assert_eq!(rt; tally.table_numbers.counted(0), 2);
+        assert_eq!(rt; tally.table_rests.counted(0), 1);
+        assert_eq!(rt; tally.differences, 0);
+    }
 }

@@ -5,6 +5,6 @@ mod counts;
 mod draws;
 mod rows;
 
-pub use counts::count_table;
+pub use counts::{count_table, report_table};
 pub use draws::{call_in_table, some_table};
 pub use rows::print_call_tables;

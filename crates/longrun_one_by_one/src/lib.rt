@@ -3,7 +3,7 @@
 #![tactic(auto)]
 
 use ledger_book::{MOST_CALLS, Page};
-use longrun_call_tables::{call_in_table, count_table, some_table};
+use longrun_call_tables::{call_in_table, report_table, some_table};
 use longrun_calls::{Chooser, Plan};
 use longrun_counts::Report;
 use longrun_draws::{Draws, Lengths, Request};
@@ -61,7 +61,7 @@ impl<R: Print> TableMaker<'_, R> {
     fn make_table(&mut self, lengths: Lengths, first: u64) -> io::Result<()> {
         let alone = self.make_each_alone(lengths, first)?;
         let made = self.sides.drive_table(&alone);
-        count_table(self.report.again(), &made)
+        report_table(self.report.again(), &made)
     }
 
     fn make_altered_table(&mut self, lengths: Lengths, first: u64) -> io::Result<()> {
