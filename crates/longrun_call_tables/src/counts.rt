@@ -172,7 +172,7 @@ mod tests {
     }
 
     #[test]
-    fn counts_a_table_and_shows_nothing(rt: HostRuntime) {
+    fn counts_tables_and_no_difference(rt: HostRuntime) {
         let mut tally = Tally::empty();
         count_table(&made(2 * CALL_LENGTH, 0), &mut tally);
         count_table(&made(CALL_LENGTH + 1, Refusal::BadTable as u64), &mut tally);
